@@ -1,0 +1,9 @@
+pub mod Walk
+pub mod Numbering
+pub mod Serialize
+pub mod Compose
+pub mod Walks
+pub mod RoundTrip
+pub mod Limits
+pub mod Stocks
+pub mod Theorems
