@@ -1,0 +1,4 @@
+pub mod Shapes
+pub mod Flow
+pub mod View
+pub mod Puts
