@@ -1,0 +1,10 @@
+pub mod Line
+pub mod Texts
+pub mod Lawful
+pub mod Pens
+pub mod Parts
+pub mod Telling
+pub mod Ends
+pub mod Reads
+pub mod Writes
+pub mod Samples
