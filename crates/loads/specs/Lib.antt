@@ -1,0 +1,12 @@
+pub mod Tidy
+pub mod Stepping
+pub mod Runs
+pub mod Room
+pub mod Written
+pub mod Standing
+pub mod Order
+pub mod Examples
+pub mod Marks
+pub mod Refusing
+pub mod Loads
+pub mod Gives
