@@ -1,0 +1,12 @@
+pub mod Places
+pub mod Sounds
+pub mod Looking
+pub mod Numbers
+pub mod Links
+pub mod Marking
+pub mod Putting
+pub mod Goings
+pub mod Within
+pub mod Planned
+pub mod OneAnswer
+pub mod Lacking
