@@ -1,0 +1,17 @@
+pub mod Sounds
+pub mod Wanted
+pub mod Handing
+pub mod Counting
+pub mod Fitting
+pub mod Moves
+pub mod Holding
+pub mod Adding
+pub mod Pieces
+pub mod Reading
+pub mod Ends
+pub mod OneWay
+pub mod Lawful
+pub mod Answering
+pub mod Same
+pub mod Examples
+pub mod Always
