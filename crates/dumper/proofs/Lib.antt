@@ -1,0 +1,5 @@
+pub mod Handed
+pub mod Naming
+pub mod Eventful
+pub mod Going
+pub mod Calling
