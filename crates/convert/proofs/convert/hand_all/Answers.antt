@@ -8,7 +8,7 @@ use Rattle.convert.proofs.convert.hand_all.Goals as goal
 pub returns-in-Err : goal.returns-in-Err
 returns-in-Err g c =
     at_fault g.K.Sink.weight (g.S.Source.flow c.args.source.now) (g.K.Sink.view c.args.sink.now) c.loop-next.events (g.S.Source.flow c.loop-next.source) (g.K.Sink.view c.loop-next.sink) c.loop-next.invariant.0
-    c.in-Err.fault (g.S.Source.flow c.next-event.new.self) c.in-Err.ensures
+    c.in-Err.fault (g.S.Source.flow c.next_event.new.self) c.in-Err.ensures
 
 pub returns-in-default : goal.returns-in-default
 returns-in-default g c =
@@ -47,15 +47,15 @@ returns-in-Err-hand-on g c =
 pub loop-next-preserved : goal.loop-next-preserved
 loop-next-preserved g c =
     let f = g.S.Source.flow c.loop-next.source in
-    let f' = g.S.Source.flow c.next-event.new.self in
+    let f' = g.S.Source.flow c.next_event.new.self in
     let v = g.K.Sink.view c.loop-next.sink in
-    let v' = g.K.Sink.view c.hand-on.new.sink in
+    let v' = g.K.Sink.view c.hand_on.new.sink in
     let one = gave_one f c.in-Ok.next c.in-Some.head f' c.in-Ok.ensures c.in-Some.is in
-    let took = subst (λ (e : Ev). Took g.K.Sink.weight v e (Ok c.in-default-hand-on.field-0) v') (latest_is f' one.0 one.1.latest) c.in-default-hand-on.ensures in
+    let took = subst (λ (e : Ev). Took g.K.Sink.weight v e (Ok c.in_default-hand_on.field-0) v') (latest_is f' one.0 one.1.latest) c.in_default-hand_on.ensures in
     let inv = c.loop-next.invariant in (
       so_far_more g.K.Sink.weight (g.S.Source.flow c.args.source.now) (g.K.Sink.view c.args.sink.now) c.loop-next.events f v inv.0
           g.K.Sink.weighs one.0 f' v' one.1 took,
-      c.hand-on.auto.anchor ∙ inv.1,
-      c.hand-on.auto.tag ∙ inv.2,
-      c.hand-on.auto.value ∙ inv.3,
+      c.hand_on.auto.anchor ∙ inv.1,
+      c.hand_on.auto.tag ∙ inv.2,
+      c.hand_on.auto.value ∙ inv.3,
     )

@@ -7,5 +7,5 @@ use Rattle.convert.proofs.convert.hand_on.Goals as goal
 pub returns : goal.returns
 returns g c =
     let f = g.S.Source.flow c.args.source.now in
-    let same = same_event f c.args.head.now c.copy-text.new.out c.copy-text-2.new.out c.copy-text-3.new.out c.requires.latest c.requires.heads c.copy-text.ensures c.copy-text-2.ensures c.copy-text-3.ensures in
+    let same = same_event f c.args.head.now c.copy_text.new.out c.copy_text-2.new.out c.copy_text-3.new.out c.requires.latest c.requires.heads c.copy_text.ensures c.copy_text-2.ensures c.copy_text-3.ensures in
     subst (λ (e : Ev). Took g.K.Sink.weight (g.K.Sink.view c.args.sink.now) e c.take.result (g.K.Sink.view c.take.new.self)) same c.take.ensures

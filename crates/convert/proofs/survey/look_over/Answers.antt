@@ -13,7 +13,7 @@ returns-in-Err g c =
     let so = c.loop-next.invariant.0 in
     record {
       tallied = so.tallied;
-      end = counted_all g.K.Sink.weight (g.S.Source.flow c.args.source.now) c.loop-next.events c.loop-next.kinds c.loop-next.anchors c.loop-next.bytes (g.S.Source.flow c.loop-next.source) so _ (g.S.Source.flow c.next-event.new.self) c.in-Err.ensures;
+      end = counted_all g.K.Sink.weight (g.S.Source.flow c.args.source.now) c.loop-next.events c.loop-next.kinds c.loop-next.anchors c.loop-next.bytes (g.S.Source.flow c.loop-next.source) so _ (g.S.Source.flow c.next_event.new.self) c.in-Err.ensures;
     }
 
 pub returns-in-default : goal.returns-in-default
@@ -29,7 +29,7 @@ returns-in-default g c =
 pub weigh-size-requires : goal.weigh-size-requires
 weigh-size-requires g c =
     let f = g.S.Source.flow c.loop-next.source in
-    let f' = g.S.Source.flow c.next-event.new.self in
+    let f' = g.S.Source.flow c.next_event.new.self in
     let one = gave_one f c.in-Ok.next c.in-Some.head f' c.in-Ok.ensures c.in-Some.is in
     let inv = c.loop-next.invariant in
     record {
@@ -70,7 +70,7 @@ overflow-add-events g c =
 pub loop-next-preserved : goal.loop-next-preserved
 loop-next-preserved g c =
     let f = g.S.Source.flow c.loop-next.source in
-    let f' = g.S.Source.flow c.next-event.new.self in
+    let f' = g.S.Source.flow c.next_event.new.self in
     let one = gave_one f c.in-Ok.next c.in-Some.head f' c.in-Ok.ensures c.in-Some.is in
     let a = came_allowed f one.0 f' (g.S.Source.sound c.loop-next.source) one.1 in
     let inv = c.loop-next.invariant in
@@ -78,13 +78,13 @@ loop-next-preserved g c =
     let anchor : c.in-Some.head.anchor ≡ length one.0.event.anchor = ap (λ h. h.anchor) one.2 in
     let same = latest_is f' one.0 one.1.latest in (
       counted_more g.K.Sink.weight (g.S.Source.flow c.args.source.now) c.loop-next.events c.loop-next.kinds c.loop-next.anchors c.loop-next.bytes f inv.0
-          g.K.Sink.weighs one.0 f' c.count-kind.new.kinds (c.loop-next.anchors + c.anchor-given-anchors.result) (c.loop-next.bytes + c.weigh-size.result) one.1 a inv.4
-          (c.count-kind.ensures ∙ ap (λ k. set c.loop-next.kinds (kind_number k - 1) (get_or c.loop-next.kinds (kind_number k - 1) 0 + 1)) kind)
-          (ap (λ x. c.loop-next.anchors + x) (c.anchor-given-anchors.ensures ∙ (λ i. bears_anchor (kind i) (anchor i))))
+          g.K.Sink.weighs one.0 f' c.count_kind.new.kinds (c.loop-next.anchors + c.anchor_given-anchors.result) (c.loop-next.bytes + c.weigh-size.result) one.1 a inv.4
+          (c.count_kind.ensures ∙ ap (λ k. set c.loop-next.kinds (kind_number k - 1) (get_or c.loop-next.kinds (kind_number k - 1) 0 + 1)) kind)
+          (ap (λ x. c.loop-next.anchors + x) (c.anchor_given-anchors.ensures ∙ (λ i. bears_anchor (kind i) (anchor i))))
           (ap (λ x. c.loop-next.bytes + x) (c.weigh-size.ensures ∙ ap g.K.Sink.weight same))
           (omega (arith, inv.0.told, c.if-size-bytes.false)),
       c.weigh-size.auto.anchor ∙ inv.1,
       c.weigh-size.auto.tag ∙ inv.2,
       c.weigh-size.auto.value ∙ inv.3,
-      c.count-kind.auto.kinds ∙ inv.4,
+      c.count_kind.auto.kinds ∙ inv.4,
     )

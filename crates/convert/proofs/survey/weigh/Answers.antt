@@ -14,5 +14,5 @@ returns-in-default g c =
 pub returns : goal.returns
 returns g c =
     let f = g.S.Source.flow c.args.source.now in
-    let same = same_event f c.args.head.now c.copy-text.new.out c.copy-text-2.new.out c.copy-text-3.new.out c.requires.latest c.requires.heads c.copy-text.ensures c.copy-text-2.ensures c.copy-text-3.ensures in
+    let same = same_event f c.args.head.now c.copy_text.new.out c.copy_text-2.new.out c.copy_text-3.new.out c.requires.latest c.requires.heads c.copy_text.ensures c.copy_text-2.ensures c.copy_text-3.ensures in
     (sized g.K.Sink.weight (latest_event f) c.in-Some.size (c.in-Some.ensures ∙ ap (size_of g.K.Sink.weight) same)).1

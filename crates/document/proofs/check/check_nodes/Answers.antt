@@ -16,7 +16,7 @@ loop-i-preserved c =
     let vs = c.args.nodes.now in
     let p = node_right (length vs) c.args.links.now c.args.text.now in
     every_more p vs c.loop-i.i empty_node (omega arith) c.loop-i.invariant
-    (right_node (length vs) c.args.links.now c.args.text.now (get_or vs c.loop-i.i empty_node) c.in-default.ensures)
+    (right_node (length vs) c.args.links.now c.args.text.now (get_or vs c.loop-i.i empty_node) c.in_default.ensures)
 
 pub returns : goal.returns
 returns c =

@@ -12,7 +12,7 @@ put-requires g c = omega (arith, ap length (same_byte c.args.byte (sym c.if-esca
 pub returns-then-escapes : goal.returns-then-escapes
 returns-then-escapes g c =
     let is : 92 ∷ c.hex.result ∷ c.hex-then-escapes.result ∷ [] ≡ escape_byte c.args.byte = cc (escaped_byte c.args.byte (sym c.if-escapes.ensures)) in
-    subst (λ xs. g.P.Pen.wrote c.args.pen.now xs c.write-all.new.pen) is c.write-all.ensures
+    subst (λ xs. g.P.Pen.wrote c.args.pen.now xs c.write_all.new.pen) is c.write_all.ensures
 
 pub returns-else-escapes : goal.returns-else-escapes
 returns-else-escapes g c = subst (λ xs. g.P.Pen.wrote c.args.pen.now xs c.put.new.self) (sym (same_byte c.args.byte (sym c.if-escapes.ensures))) c.put.ensures

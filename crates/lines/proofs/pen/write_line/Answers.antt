@@ -58,10 +58,10 @@ put-requires g c =
       c.requires.1,
       length-append (word e.kind) (digits e.style e.flags),
       length_word e.kind,
-      g.P.Pen.falls c.args.pen.now c.write-head.new.pen w c.write-head.ensures,
-      g.P.Pen.falls c.write-head.new.pen c.write-optional.new.pen (optional 38 e.anchor) c.write-optional.ensures,
-      g.P.Pen.falls c.write-optional.new.pen c.write-optional-2.new.pen (optional 60 e.tag) c.write-optional-2.ensures,
-      g.P.Pen.falls c.write-optional-2.new.pen c.write-value.new.pen (value_part e.kind e.value) c.write-value.ensures,
+      g.P.Pen.falls c.args.pen.now c.write_head.new.pen w c.write_head.ensures,
+      g.P.Pen.falls c.write_head.new.pen c.write_optional.new.pen (optional 38 e.anchor) c.write_optional.ensures,
+      g.P.Pen.falls c.write_optional.new.pen c.write_optional-2.new.pen (optional 60 e.tag) c.write_optional-2.ensures,
+      g.P.Pen.falls c.write_optional-2.new.pen c.write-value.new.pen (value_part e.kind e.value) c.write-value.ensures,
     )
 
 pub returns : goal.returns
@@ -72,7 +72,7 @@ returns g c =
     let t : List _ = optional 60 e.tag in
     let v : List _ = value_part e.kind e.value in
     subst (λ xs. g.P.Pen.wrote c.args.pen.now xs c.put.new.self) (line_parts e)
-    (g.P.Pen.onward c.args.pen.now c.write-head.new.pen c.put.new.self w (a ++ (t ++ (v ++ 10 ∷ []))) c.write-head.ensures
-    (g.P.Pen.onward c.write-head.new.pen c.write-optional.new.pen c.put.new.self a (t ++ (v ++ 10 ∷ [])) c.write-optional.ensures
-    (g.P.Pen.onward c.write-optional.new.pen c.write-optional-2.new.pen c.put.new.self t (v ++ 10 ∷ []) c.write-optional-2.ensures
-    (g.P.Pen.onward c.write-optional-2.new.pen c.write-value.new.pen c.put.new.self v (10 ∷ []) c.write-value.ensures c.put.ensures))))
+    (g.P.Pen.onward c.args.pen.now c.write_head.new.pen c.put.new.self w (a ++ (t ++ (v ++ 10 ∷ []))) c.write_head.ensures
+    (g.P.Pen.onward c.write_head.new.pen c.write_optional.new.pen c.put.new.self a (t ++ (v ++ 10 ∷ [])) c.write_optional.ensures
+    (g.P.Pen.onward c.write_optional.new.pen c.write_optional-2.new.pen c.put.new.self t (v ++ 10 ∷ []) c.write_optional-2.ensures
+    (g.P.Pen.onward c.write_optional-2.new.pen c.write-value.new.pen c.put.new.self v (10 ∷ []) c.write-value.ensures c.put.ensures))))

@@ -15,10 +15,10 @@ loop-b-preserved g c =
     let i = c.loop-b.b-index in
     let bs = c.args.text.now in
     let x : List _ = escape_byte (get_or bs i 0) in
-    let f = g.P.Pen.falls c.loop-b.pen c.write-byte.new.pen x c.write-byte.ensures in
+    let f = g.P.Pen.falls c.loop-b.pen c.write_byte.new.pen x c.write_byte.ensures in
     let m = escape_more bs i c.loop-b-test.true in (
-      subst (λ xs. g.P.Pen.wrote c.args.pen.now xs c.write-byte.new.pen) (sym m)
-          (g.P.Pen.onward c.args.pen.now c.loop-b.pen c.write-byte.new.pen (escape (take i bs)) x c.loop-b.invariant.0 c.write-byte.ensures),
+      subst (λ xs. g.P.Pen.wrote c.args.pen.now xs c.write_byte.new.pen) (sym m)
+          (g.P.Pen.onward c.args.pen.now c.loop-b.pen c.write_byte.new.pen (escape (take i bs)) x c.loop-b.invariant.0 c.write_byte.ensures),
       omega (arith, f, c.loop-b.invariant.1, ap length m, length-append (escape (take i bs)) x),
     )
 

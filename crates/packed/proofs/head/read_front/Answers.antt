@@ -11,5 +11,5 @@ returns-in-len9-up c =
     let long : 9 ≤ length c.args.rest.now = search rules in
     let places = front_nine c.args.rest.now long in
     let texts = take_rest c.args.rest.now 9 in
-    let same : front_of c.read-head.result ≡ packed_front c.args.rest.now = cc in
-    record { front = same; inside = found_inside c.read-head.result c.args.rest.now same }
+    let same : front_of c.read_head.result ≡ packed_front c.args.rest.now = cc in
+    record { front = same; inside = found_inside c.read_head.result c.args.rest.now same }

@@ -31,7 +31,7 @@ returns c =
     record {
       stood =
           stands h c.args.start_implicit c.args.end_implicit _
-          (take_part n vs) (take_space c.space-links-end.result 16384 ls c.space-links-end.ensures)
-          (take_space c.space-text-end.result 65536 ts c.space-text-end.ensures) refl refl (omega arith) c.in-ok-check-all.ensures;
+          (take_part n vs) (take_space c.space-links_end.result 16384 ls c.space-links_end.ensures)
+          (take_space c.space-text_end.result 65536 ts c.space-text_end.ensures) refl refl (omega arith) c.in_ok-check_all.ensures;
       determined = determined h;
     }

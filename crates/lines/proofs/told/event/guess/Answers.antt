@@ -17,8 +17,8 @@ returns-in-default-read-part-2 c =
 
 pub returns : goal.returns
 returns c =
-    put_together c.args.bytes.now c.byte-at.result c.byte-at-2.result c.byte-at-3.result c.byte-at-4.result c.seeming-kind-told.result c.number-told.result c.number-told-2.result
+    put_together c.args.bytes.now c.byte_at.result c.byte_at-2.result c.byte_at-3.result c.byte-at-4.result c.seeming-kind-told.result c.number-told.result c.number-told-2.result
     c.skip.result.now c.in-Some.first.rest.now c.in-Some-read-part.second.rest.now
     (take c.in-Some.first.length c.read-part.new.buffer) (take c.in-Some-read-part.second.length c.read-part-2.new.buffer) (take c.in-Some-read-part-2.third.length c.read-part-3.new.buffer)
-    c.seeming-kind-told.ensures c.byte-at.ensures c.byte-at-2.ensures c.number-told.ensures c.byte-at-3.ensures c.number-told-2.ensures c.byte-at-4.ensures
+    c.seeming-kind-told.ensures c.byte_at.ensures c.byte_at-2.ensures c.number-told.ensures c.byte_at-3.ensures c.number-told-2.ensures c.byte-at-4.ensures
     c.skip.ensures c.in-Some.ensures.text c.in-Some.ensures.rest c.in-Some-read-part.ensures.text c.in-Some-read-part.ensures.rest c.in-Some-read-part-2.ensures.text

@@ -8,14 +8,14 @@ pub returns : goal.returns
 returns c =
     let w = c.args.self.now in
     let e = ev_of c.args.e.now in
-    let head : c.head-bytes-head.result ≡ head_of e = c.head-bytes-head.ensures in
-    let nine : length c.head-bytes-head.result ≡ 9 = ap length head in
+    let head : c.head_bytes-head.result ≡ head_of e = c.head_bytes-head.ensures in
+    let nine : length c.head_bytes-head.result ≡ 9 = ap length head in
     let a = length e.anchor in
     let t = length e.tag in
     record {
       bytes =
           four_puts w.out.now c.put.new.self.out.now c.put-2.new.self.out.now c.put-3.new.self.out.now c.put-4.new.self.out.now
-          c.head-bytes-head.result e.anchor e.tag e.value w.used (w.used + 9) (w.used + 9 + a) (w.used + 9 + a + t) (w.used + size_of e)
+          c.head_bytes-head.result e.anchor e.tag e.value w.used (w.used + 9) (w.used + 9 + a) (w.used + 9 + a + t) (w.used + size_of e)
           c.put.ensures.slice c.put-2.ensures.slice c.put-3.ensures.slice c.put-4.ensures.slice
           (omega arith) refl refl (omega arith) c.requires.fits
           c.put.ensures.length_same c.put-2.ensures.length_same c.put-3.ensures.length_same

@@ -21,7 +21,7 @@ returns-in-Nothing c =
 pub returns-in-Line : goal.returns-in-Line
 returns-in-Line c =
     let r = c.args.self.now in
-    let t = c.read-front.new.told in
+    let t = c.read_front.new.told in
     let e = ev_told t in
     let n = c.in-Line.size in
     let a : length (take t.anchor_length t.anchor) ≡ t.anchor_length = length-take-le t.anchor_length t.anchor t.anchor_fits in

@@ -21,9 +21,9 @@ invariant-of-self-2 c =
 pub returns : goal.returns
 returns c =
     let w = c.args.self.now in
-    let after = c.write-line.new.pen in
+    let after = c.write_line.new.pen in
     let e = ev_of c.args.e.now in
-    let stored = c.write-line.ensures in
+    let stored = c.write_line.ensures in
     let size = sized weight_of e c.in-Some.size c.in-Some.ensures in
     let long = same_length w.out.now after.out.now w.used (line_of e) stored.slice in
     let more = one_line_more w.out.now after.out.now w.used after.at (line_of e) stored.slice stored.place after.inside in

@@ -22,11 +22,11 @@ returns c =
     let w = c.args.self.now in
     let e = ev_of c.args.e.now in
     let size = sized size_of e c.in-Some.size c.in-Some.ensures in
-    let stored = c.put-event.ensures in
-    let end : c.put-event.new.self.used + c.in-Some.size ≡ w.used + size_of e = omega arith in
+    let stored = c.put_event.ensures in
+    let end : c.put_event.new.self.used + c.in-Some.size ≡ w.used + size_of e = omega arith in
     record {
       was_allowed = size.0;
       fitted = omega (arith, w.inside);
-      appended = (taken_more packed_format (held w) (take (c.put-event.new.self.used + c.in-Some.size) c.put-event.new.self.out.now) e w.whole size.0 (ap (λ n. take n c.put-event.new.self.out.now) end ∙ stored.bytes)).0;
+      appended = (taken_more packed_format (held w) (take (c.put_event.new.self.used + c.in-Some.size) c.put_event.new.self.out.now) e w.whole size.0 (ap (λ n. take n c.put_event.new.self.out.now) end ∙ stored.bytes)).0;
       fallen = omega (arith, w.inside);
     }
