@@ -10,17 +10,17 @@ returns-in-Err g c =
     at_fault g.K.Sink.weight (g.S.Source.flow c.args.source.now) (g.K.Sink.view c.args.sink.now) c.loop-next.events (g.S.Source.flow c.loop-next.source) (g.K.Sink.view c.loop-next.sink) c.loop-next.invariant.0
     c.in-Err.fault (g.S.Source.flow c.next_event.new.self) c.in-Err.ensures
 
-pub returns-in-default : goal.returns-in-default
-returns-in-default g c =
+pub returns-in_default : goal.returns-in_default
+returns-in_default g c =
     let f = g.S.Source.flow c.loop-next.source in
-    let f' = g.S.Source.flow c.next-event.new.self in
+    let f' = g.S.Source.flow c.next_event.new.self in
     at_end g.K.Sink.weight (g.S.Source.flow c.args.source.now) (g.K.Sink.view c.args.sink.now) c.loop-next.events f (g.K.Sink.view c.loop-next.sink) c.loop-next.invariant.0
-    f' (gave_none f c.in-Ok.next f' c.in-Ok.ensures c.in-default.is)
+    f' (gave_none f c.in-Ok.next f' c.in-Ok.ensures c.in_default.is)
 
-pub hand-on-requires : goal.hand-on-requires
-hand-on-requires g c =
+pub hand_on-requires : goal.hand_on-requires
+hand_on-requires g c =
     let f = g.S.Source.flow c.loop-next.source in
-    let f' = g.S.Source.flow c.next-event.new.self in
+    let f' = g.S.Source.flow c.next_event.new.self in
     let one = gave_one f c.in-Ok.next c.in-Some.head f' c.in-Ok.ensures c.in-Some.is in
     let inv = c.loop-next.invariant in
     record {
@@ -32,17 +32,17 @@ hand-on-requires g c =
       value = omega (arith, inv.3);
     }
 
-pub returns-in-Err-hand-on : goal.returns-in-Err-hand-on
-returns-in-Err-hand-on g c =
+pub returns-in-Err-hand_on : goal.returns-in-Err-hand_on
+returns-in-Err-hand_on g c =
     let f = g.S.Source.flow c.loop-next.source in
-    let f' = g.S.Source.flow c.next-event.new.self in
+    let f' = g.S.Source.flow c.next_event.new.self in
     let v = g.K.Sink.view c.loop-next.sink in
-    let v' = g.K.Sink.view c.hand-on.new.sink in
+    let v' = g.K.Sink.view c.hand_on.new.sink in
     let one = gave_one f c.in-Ok.next c.in-Some.head f' c.in-Ok.ensures c.in-Some.is in
     let a = came_allowed f one.0 f' (g.S.Source.sound c.loop-next.source) one.1 in
     refused g.K.Sink.weight (g.S.Source.flow c.args.source.now) (g.K.Sink.view c.args.sink.now) c.loop-next.events f v c.loop-next.invariant.0
-    one.0 f' v' c.in-Err-hand-on.refusal one.1 a
-    (subst (λ (e : Ev). Took g.K.Sink.weight v e (Err c.in-Err-hand-on.refusal) v') (latest_is f' one.0 one.1.latest) c.in-Err-hand-on.ensures)
+    one.0 f' v' c.in-Err-hand_on.refusal one.1 a
+    (subst (λ (e : Ev). Took g.K.Sink.weight v e (Err c.in-Err-hand_on.refusal) v') (latest_is f' one.0 one.1.latest) c.in-Err-hand_on.ensures)
 
 pub loop-next-preserved : goal.loop-next-preserved
 loop-next-preserved g c =

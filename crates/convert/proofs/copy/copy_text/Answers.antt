@@ -11,10 +11,10 @@ loop-i-preserved g c =
     let there : c.loop-i.i < length text = omega arith in
     copied_more c.loop-i.out text c.loop-i.i c.in-Some.b (omega arith) there (byte_is f c.args.text c.loop-i.i c.in-Some.b there c.in-Some.ensures) c.loop-i.invariant
 
-pub returns-in-default : goal.returns-in-default
-returns-in-default g c =
+pub returns-in_default : goal.returns-in_default
+returns-in_default g c =
     let f = g.S.Source.flow c.args.source.now in
-    absurd (byte_not_absent f c.args.text c.loop-i.i (omega arith) c.in-default.ensures)
+    absurd (byte_not_absent f c.args.text c.loop-i.i (omega arith) c.in_default.ensures)
 
 pub returns : goal.returns
 returns g c =

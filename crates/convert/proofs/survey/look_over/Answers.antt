@@ -16,14 +16,14 @@ returns-in-Err g c =
       end = counted_all g.K.Sink.weight (g.S.Source.flow c.args.source.now) c.loop-next.events c.loop-next.kinds c.loop-next.anchors c.loop-next.bytes (g.S.Source.flow c.loop-next.source) so _ (g.S.Source.flow c.next_event.new.self) c.in-Err.ensures;
     }
 
-pub returns-in-default : goal.returns-in-default
-returns-in-default g c =
+pub returns-in_default : goal.returns-in_default
+returns-in_default g c =
     let so = c.loop-next.invariant.0 in
     let f = g.S.Source.flow c.loop-next.source in
-    let f' = g.S.Source.flow c.next-event.new.self in
+    let f' = g.S.Source.flow c.next_event.new.self in
     record {
       tallied = so.tallied;
-      end = counted_all g.K.Sink.weight (g.S.Source.flow c.args.source.now) c.loop-next.events c.loop-next.kinds c.loop-next.anchors c.loop-next.bytes f so _ f' (gave_none f c.in-Ok.next f' c.in-Ok.ensures c.in-default.is);
+      end = counted_all g.K.Sink.weight (g.S.Source.flow c.args.source.now) c.loop-next.events c.loop-next.kinds c.loop-next.anchors c.loop-next.bytes f so _ f' (gave_none f c.in-Ok.next f' c.in-Ok.ensures c.in_default.is);
     }
 
 pub weigh-size-requires : goal.weigh-size-requires
@@ -41,29 +41,29 @@ weigh-size-requires g c =
       value = omega (arith, inv.3);
     }
 
-pub overflow-sub-bytes : goal.overflow-sub-bytes
-overflow-sub-bytes g c = omega (arith, c.loop-next.invariant.0.told)
+pub overflow_sub-bytes : goal.overflow_sub-bytes
+overflow_sub-bytes g c = omega (arith, c.loop-next.invariant.0.told)
 
-pub overflow-add-bytes : goal.overflow-add-bytes
-overflow-add-bytes g c = omega (arith, c.loop-next.invariant.0.told, c.if-size-bytes.false)
+pub overflow_add-bytes : goal.overflow_add-bytes
+overflow_add-bytes g c = omega (arith, c.loop-next.invariant.0.told, c.if-size-bytes.false)
 
-pub count-kind-requires : goal.count-kind-requires
-count-kind-requires g c =
-    let heavy = gave_heavy g.K.Sink.weight g.K.Sink.weighs (g.S.Source.flow c.loop-next.source) c.in-Ok.next c.in-Some.head (g.S.Source.flow c.next-event.new.self) (g.S.Source.sound c.loop-next.source) c.in-Ok.ensures c.in-Some.is in
+pub count_kind-requires : goal.count_kind-requires
+count_kind-requires g c =
+    let heavy = gave_heavy g.K.Sink.weight g.K.Sink.weighs (g.S.Source.flow c.loop-next.source) c.in-Ok.next c.in-Some.head (g.S.Source.flow c.next_event.new.self) (g.S.Source.sound c.loop-next.source) c.in-Ok.ensures c.in-Some.is in
     let so = c.loop-next.invariant.0 in
     let below = kind_below g.K.Sink.weight (g.S.Source.flow c.args.source.now) c.loop-next.events c.loop-next.kinds c.loop-next.anchors c.loop-next.bytes (g.S.Source.flow c.loop-next.source) so c.in-Some.head.kind in
     record { ten = c.loop-next.invariant.4; fits = omega (arith, c.weigh-size.ensures, so.told, c.if-size-bytes.false) }
 
-pub overflow-add-anchors : goal.overflow-add-anchors
-overflow-add-anchors g c =
-    let heavy = gave_heavy g.K.Sink.weight g.K.Sink.weighs (g.S.Source.flow c.loop-next.source) c.in-Ok.next c.in-Some.head (g.S.Source.flow c.next-event.new.self) (g.S.Source.sound c.loop-next.source) c.in-Ok.ensures c.in-Some.is in
+pub overflow_add-anchors : goal.overflow_add-anchors
+overflow_add-anchors g c =
+    let heavy = gave_heavy g.K.Sink.weight g.K.Sink.weighs (g.S.Source.flow c.loop-next.source) c.in-Ok.next c.in-Some.head (g.S.Source.flow c.next_event.new.self) (g.S.Source.sound c.loop-next.source) c.in-Ok.ensures c.in-Some.is in
     let so = c.loop-next.invariant.0 in
     let below = anchors_below g.K.Sink.weight (g.S.Source.flow c.args.source.now) c.loop-next.events c.loop-next.kinds c.loop-next.anchors c.loop-next.bytes (g.S.Source.flow c.loop-next.source) so in
-    omega (arith, c.weigh-size.ensures, so.told, c.if-size-bytes.false, bears_few c.in-Some.head.kind c.in-Some.head.anchor, c.anchor-given-anchors.ensures)
+    omega (arith, c.weigh-size.ensures, so.told, c.if-size-bytes.false, bears_few c.in-Some.head.kind c.in-Some.head.anchor, c.anchor_given-anchors.ensures)
 
-pub overflow-add-events : goal.overflow-add-events
-overflow-add-events g c =
-    let heavy = gave_heavy g.K.Sink.weight g.K.Sink.weighs (g.S.Source.flow c.loop-next.source) c.in-Ok.next c.in-Some.head (g.S.Source.flow c.next-event.new.self) (g.S.Source.sound c.loop-next.source) c.in-Ok.ensures c.in-Some.is in
+pub overflow_add-events : goal.overflow_add-events
+overflow_add-events g c =
+    let heavy = gave_heavy g.K.Sink.weight g.K.Sink.weighs (g.S.Source.flow c.loop-next.source) c.in-Ok.next c.in-Some.head (g.S.Source.flow c.next_event.new.self) (g.S.Source.sound c.loop-next.source) c.in-Ok.ensures c.in-Some.is in
     let so = c.loop-next.invariant.0 in
     omega (arith, c.weigh-size.ensures, so.told, so.few, c.if-size-bytes.false)
 

@@ -5,8 +5,8 @@ use Rattle.dumper.proofs.Handed.{one_in, one_hands}
 use Rattle.std.proofs.Common.{refl}
 use Rattle.dumper.proofs.hand.hand.Goals as goal
 
-pub returns-in-default : goal.returns-in-default
-returns-in-default g c = all_in refl (one_in g.K.Sink.weighs c.in-default.ensures)
+pub returns-in_default : goal.returns-in_default
+returns-in_default g c = all_in refl (one_in g.K.Sink.weighs c.in_default.ensures)
 
 pub returns : goal.returns
 returns g c =

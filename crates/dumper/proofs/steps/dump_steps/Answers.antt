@@ -11,8 +11,8 @@ use Rattle.dumper.proofs.Eventful.{step_allowed, dues_at, dues_more}
 use Rattle.dumper.proofs.Handed.{all_then, all_of, all_as, hands_then, cut_before, hands_as, hands_left}
 use Rattle.dumper.proofs.steps.dump_steps.Goals as goal
 
-pub dump-step-requires : goal.dump-step-requires
-dump-step-requires g c =
+pub dump_step-requires : goal.dump_step-requires
+dump_step-requires g c =
     let graph = (book_of c.args.d.now).nodes in
     record {
       numbers = c.requires.numbers;
@@ -20,17 +20,17 @@ dump-step-requires g c =
       few = omega (arith, c.loop-i.invariant.few, c.requires.few);
     }
 
-pub returns-in-err-dump-step : goal.returns-in-err-dump-step
-returns-in-err-dump-step g c =
+pub returns-in_err-dump_step : goal.returns-in_err-dump_step
+returns-in_err-dump_step g c =
     let graph = (book_of c.args.d.now).nodes in
-    hands_left (err_from_is_err_and c.from-residual.result c.from-residual.ensures.1)
+    hands_left (err_from_is_err_and c.from_residual.result c.from_residual.ensures.1)
     (hands_as (dues_at (anchor_of graph) graph c.args.steps.now c.loop-i.i empty_step (omega arith))
-    (cut_before (walk_dues (anchor_of graph) graph (tokens_of (drop (c.loop-i.i + 1) c.args.steps.now))) (hands_then c.loop-i.invariant c.in-err-dump-step.ensures)))
+    (cut_before (walk_dues (anchor_of graph) graph (tokens_of (drop (c.loop-i.i + 1) c.args.steps.now))) (hands_then c.loop-i.invariant c.in_err-dump_step.ensures)))
 
 pub loop-i-preserved : goal.loop-i-preserved
 loop-i-preserved g c =
     let graph = (book_of c.args.d.now).nodes in
-    all_as (dues_more (anchor_of graph) graph c.args.steps.now c.loop-i.i empty_step (omega arith)) (all_then c.loop-i.invariant (all_of c.in-ok-dump-step.ensures))
+    all_as (dues_more (anchor_of graph) graph c.args.steps.now c.loop-i.i empty_step (omega arith)) (all_then c.loop-i.invariant (all_of c.in_ok-dump_step.ensures))
 
 pub returns : goal.returns
 returns g c =

@@ -9,23 +9,23 @@ use Rattle.kelfhoam_c.proofs.Bare.{bare_book}
 use Rattle.kelfhoam_c.proofs.write.call.Goals as goal
 
 pub returns-then-letter-eq111 : goal.returns-then-letter-eq111
-returns-then-letter-eq111 g c = opens c.open.result c.if-letter-eq111.true c.tell-call.ensures c.open.ensures.called
+returns-then-letter-eq111 g c = opens c.open.result c.if-letter-eq111.true c.tell_call.ensures c.open.ensures.called
 
 pub returns-then-letter-eq99 : goal.returns-then-letter-eq99
-returns-then-letter-eq99 g c = closes c.close.result c.if-letter-eq99.true c.tell-call-then-letter-eq99.ensures c.close.ensures.called
+returns-then-letter-eq99 g c = closes c.close.result c.if-letter-eq99.true c.tell_call-then-letter-eq99.ensures c.close.ensures.called
 
 pub returns-then-letter-eq101 : goal.returns-then-letter-eq101
 returns-then-letter-eq101 g c =
-    dumps_nothing c.dump.result c.if-letter-eq101.true c.tell-call-then-letter-eq101.ensures
+    dumps_nothing c.dump.result c.if-letter-eq101.true c.tell_call-then-letter-eq101.ensures
     (subst (λ b. Called g.K.Sink.weight (dumping (handed b (length c.args.counting.now) (length c.args.steps.now))) (state_of g.K.Sink.view c.args.writer.now) (answer_of c.dump.result) (state_of g.K.Sink.view c.dump.new.self))
     (bare_book c.empty.result c.empty.ensures) c.dump.ensures.called)
 
 pub returns-in-Err : goal.returns-in-Err
-returns-in-Err g c = no_document c.in-Err.refusal c.if-letter-ne100.false c.in-Err.ensures.stood.why c.tell-no-document.ensures refl
+returns-in-Err g c = no_document c.in-Err.refusal c.if-letter-ne100.false c.in-Err.ensures.stood.why c.tell_no_document.ensures refl
 
 pub returns : goal.returns
 returns g c =
-    let stood = c.in-default.ensures.stood in
-    dumps c.dump-2.result c.if-letter-ne100.false stood.fit c.tell-call-2.ensures
+    let stood = c.in_default.ensures.stood in
+    dumps c.dump-2.result c.if-letter-ne100.false stood.fit c.tell_call-2.ensures
     (subst (λ b. Called g.K.Sink.weight (dumping (handed b (length c.args.counting.now) (length c.args.steps.now))) (state_of g.K.Sink.view c.args.writer.now) (answer_of c.dump-2.result) (state_of g.K.Sink.view c.dump-2.new.self))
     stood.book c.dump-2.ensures.called)

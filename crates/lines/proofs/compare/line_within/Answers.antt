@@ -3,5 +3,5 @@ use Rattle.yaml.specs.Shapes.{ev_of}
 use Rattle.lines.specs.Lawful.{short}
 use Rattle.lines.proofs.compare.line_within.Goals as goal
 
-pub write-line-requires : goal.write-line-requires
-write-line-requires c = (c.requires, omega (arith, short (ev_of c.args.e.now) c.requires))
+pub write_line-requires : goal.write_line-requires
+write_line-requires c = (c.requires, omega (arith, short (ev_of c.args.e.now) c.requires))

@@ -3,8 +3,8 @@ use Rattle.lines.specs.Line.{escape_byte}
 use Rattle.lines.proofs.Escaping.{escaped_byte, same_byte}
 use Rattle.lines.proofs.pen.write_byte.Goals as goal
 
-pub write-all-requires : goal.write-all-requires
-write-all-requires g c = omega (arith, ap length (escaped_byte c.args.byte (sym c.if-escapes.ensures)))
+pub write_all-requires : goal.write_all-requires
+write_all-requires g c = omega (arith, ap length (escaped_byte c.args.byte (sym c.if-escapes.ensures)))
 
 pub put-requires : goal.put-requires
 put-requires g c = omega (arith, ap length (same_byte c.args.byte (sym c.if-escapes.ensures)))

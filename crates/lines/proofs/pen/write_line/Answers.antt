@@ -7,20 +7,20 @@ use Rattle.lines.specs.Lawful.{lengths, small_digits, length_line, length_word}
 use Rattle.lines.proofs.Escaping.{line_parts}
 use Rattle.lines.proofs.pen.write_line.Goals as goal
 
-pub write-head-requires : goal.write-head-requires
-write-head-requires g c =
+pub write_head-requires : goal.write_head-requires
+write_head-requires g c =
     let e = ev_of c.args.e.now in
     let d = small_digits e c.requires.0 in
     (d.0, (d.1, omega (arith, length_line e, c.requires.1)))
 
-pub write-optional-requires : goal.write-optional-requires
-write-optional-requires g c =
+pub write_optional-requires : goal.write_optional-requires
+write_optional-requires g c =
     let e = ev_of c.args.e.now in
     let w : List _ = word e.kind ++ digits e.style e.flags in
-    omega (arith, length_line e, c.requires.1, length-append (word e.kind) (digits e.style e.flags), length_word e.kind, g.P.Pen.falls c.args.pen.now c.write-head.new.pen w c.write-head.ensures)
+    omega (arith, length_line e, c.requires.1, length-append (word e.kind) (digits e.style e.flags), length_word e.kind, g.P.Pen.falls c.args.pen.now c.write_head.new.pen w c.write_head.ensures)
 
-pub write-optional-requires-2 : goal.write-optional-requires-2
-write-optional-requires-2 g c =
+pub write_optional-requires-2 : goal.write_optional-requires-2
+write_optional-requires-2 g c =
     let e = ev_of c.args.e.now in
     let w : List _ = word e.kind ++ digits e.style e.flags in
     omega (
@@ -29,12 +29,12 @@ write-optional-requires-2 g c =
       c.requires.1,
       length-append (word e.kind) (digits e.style e.flags),
       length_word e.kind,
-      g.P.Pen.falls c.args.pen.now c.write-head.new.pen w c.write-head.ensures,
-      g.P.Pen.falls c.write-head.new.pen c.write-optional.new.pen (optional 38 e.anchor) c.write-optional.ensures,
+      g.P.Pen.falls c.args.pen.now c.write_head.new.pen w c.write_head.ensures,
+      g.P.Pen.falls c.write_head.new.pen c.write_optional.new.pen (optional 38 e.anchor) c.write_optional.ensures,
     )
 
-pub write-value-requires : goal.write-value-requires
-write-value-requires g c =
+pub write_value-requires : goal.write_value-requires
+write_value-requires g c =
     let e = ev_of c.args.e.now in
     let w : List _ = word e.kind ++ digits e.style e.flags in
     omega (
@@ -43,9 +43,9 @@ write-value-requires g c =
       c.requires.1,
       length-append (word e.kind) (digits e.style e.flags),
       length_word e.kind,
-      g.P.Pen.falls c.args.pen.now c.write-head.new.pen w c.write-head.ensures,
-      g.P.Pen.falls c.write-head.new.pen c.write-optional.new.pen (optional 38 e.anchor) c.write-optional.ensures,
-      g.P.Pen.falls c.write-optional.new.pen c.write-optional-2.new.pen (optional 60 e.tag) c.write-optional-2.ensures,
+      g.P.Pen.falls c.args.pen.now c.write_head.new.pen w c.write_head.ensures,
+      g.P.Pen.falls c.write_head.new.pen c.write_optional.new.pen (optional 38 e.anchor) c.write_optional.ensures,
+      g.P.Pen.falls c.write_optional.new.pen c.write_optional-2.new.pen (optional 60 e.tag) c.write_optional-2.ensures,
     )
 
 pub put-requires : goal.put-requires
@@ -61,7 +61,7 @@ put-requires g c =
       g.P.Pen.falls c.args.pen.now c.write_head.new.pen w c.write_head.ensures,
       g.P.Pen.falls c.write_head.new.pen c.write_optional.new.pen (optional 38 e.anchor) c.write_optional.ensures,
       g.P.Pen.falls c.write_optional.new.pen c.write_optional-2.new.pen (optional 60 e.tag) c.write_optional-2.ensures,
-      g.P.Pen.falls c.write_optional-2.new.pen c.write-value.new.pen (value_part e.kind e.value) c.write-value.ensures,
+      g.P.Pen.falls c.write_optional-2.new.pen c.write_value.new.pen (value_part e.kind e.value) c.write_value.ensures,
     )
 
 pub returns : goal.returns
@@ -75,4 +75,4 @@ returns g c =
     (g.P.Pen.onward c.args.pen.now c.write_head.new.pen c.put.new.self w (a ++ (t ++ (v ++ 10 ∷ []))) c.write_head.ensures
     (g.P.Pen.onward c.write_head.new.pen c.write_optional.new.pen c.put.new.self a (t ++ (v ++ 10 ∷ [])) c.write_optional.ensures
     (g.P.Pen.onward c.write_optional.new.pen c.write_optional-2.new.pen c.put.new.self t (v ++ 10 ∷ []) c.write_optional-2.ensures
-    (g.P.Pen.onward c.write_optional-2.new.pen c.write-value.new.pen c.put.new.self v (10 ∷ []) c.write-value.ensures c.put.ensures))))
+    (g.P.Pen.onward c.write_optional-2.new.pen c.write_value.new.pen c.put.new.self v (10 ∷ []) c.write_value.ensures c.put.ensures))))

@@ -2,8 +2,8 @@ use Rattle.std.proofs.Common.{[], ◌∷◌, arith}
 use Rattle.lines.specs.Line.{escape}
 use Rattle.lines.proofs.pen.write_part.Goals as goal
 
-pub write-text-requires : goal.write-text-requires
-write-text-requires g c = omega (arith, g.P.Pen.falls c.args.pen.now c.write-all.new.pen (32 ∷ c.args.mark ∷ []) c.write-all.ensures, c.requires)
+pub write_text-requires : goal.write_text-requires
+write_text-requires g c = omega (arith, g.P.Pen.falls c.args.pen.now c.write_all.new.pen (32 ∷ c.args.mark ∷ []) c.write_all.ensures, c.requires)
 
 pub returns : goal.returns
 returns g c = g.P.Pen.onward c.args.pen.now c.write_all.new.pen c.write_text.new.pen (32 ∷ c.args.mark ∷ []) (escape c.args.text.now) c.write_all.ensures c.write_text.ensures

@@ -7,8 +7,8 @@ use Rattle.lines.proofs.pen.write_text.Goals as goal
 pub loop-b-init : goal.loop-b-init
 loop-b-init g c = (g.P.Pen.nothing c.args.pen.now, omega arith)
 
-pub write-byte-requires : goal.write-byte-requires
-write-byte-requires g c = next_fits c.args.text.now c.loop-b.b-index (g.P.Pen.room c.loop-b.pen) c.loop-b-test.true c.loop-b.invariant.1
+pub write_byte-requires : goal.write_byte-requires
+write_byte-requires g c = next_fits c.args.text.now c.loop-b.b-index (g.P.Pen.room c.loop-b.pen) c.loop-b-test.true c.loop-b.invariant.1
 
 pub loop-b-preserved : goal.loop-b-preserved
 loop-b-preserved g c =

@@ -9,8 +9,8 @@ pub returns-in-DocumentStart : goal.returns-in-DocumentStart
 returns-in-DocumentStart g c =
     let sp = c.args.spaces in
     let f = g.S.Source.flow c.args.source.now in
-    let f' = g.S.Source.flow c.next-head.new.source in
+    let f' = g.S.Source.flow c.next_head.new.source in
     let one = c.in-Ok.ensures in
     let a = came_allowed f one.one f' (g.S.Source.sound c.args.source.now) one.came in
-    subst (λ (o : Outcome). Ends o sp c.args.tables.now c.load-nodes.result c.load-nodes.new.tables (g.S.Source.flow c.load-nodes.new.source))
-    (begins sp f f' c.in-Ok.head c.args.tables.now one c.requires.blank a c.in-DocumentStart.is) c.load-nodes.ensures
+    subst (λ (o : Outcome). Ends o sp c.args.tables.now c.load_nodes.result c.load_nodes.new.tables (g.S.Source.flow c.load_nodes.new.source))
+    (begins sp f f' c.in-Ok.head c.args.tables.now one c.requires.blank a c.in-DocumentStart.is) c.load_nodes.ensures

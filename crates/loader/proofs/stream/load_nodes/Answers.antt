@@ -8,12 +8,12 @@ use Rattle.loader.proofs.stream.load_nodes.Goals as goal
 pub returns-in-Err : goal.returns-in-Err
 returns-in-Err g c =
     going_none c.args.spaces (start_marked c.args.begin.now) (g.S.Source.flow c.args.source.now) c.args.tables.now (g.S.Source.flow c.loop-head.source) c.loop-head.tables c.loop-head.invariant
-    (g.S.Source.flow c.next-head.new.source) c.in-Err.refusal c.in-Err.ensures
+    (g.S.Source.flow c.next_head.new.source) c.in-Err.refusal c.in-Err.ensures
 
-pub take-event-requires : goal.take-event-requires
-take-event-requires g c =
+pub take_event-requires : goal.take_event-requires
+take_event-requires g c =
     let f = g.S.Source.flow c.loop-head.source in
-    let f' = g.S.Source.flow c.next-head.new.source in
+    let f' = g.S.Source.flow c.next_head.new.source in
     let one = c.in-Ok.ensures in
     record {
       latest = latest_there f' one.one one.came.latest;
@@ -25,22 +25,22 @@ take-event-requires g c =
       sound = c.loop-head.invariant.sound;
     }
 
-pub returns-in-Err-take-event : goal.returns-in-Err-take-event
-returns-in-Err-take-event g c =
+pub returns-in-Err-take_event : goal.returns-in-Err-take_event
+returns-in-Err-take_event g c =
     going_refused c.args.spaces (start_marked c.args.begin.now) (g.S.Source.flow c.args.source.now) c.args.tables.now (g.S.Source.flow c.loop-head.source) c.loop-head.tables c.loop-head.invariant
-    (g.S.Source.flow c.next-head.new.source) c.in-Ok.head c.in-Ok.ensures c.in-Err-take-event.refusal c.take-event.new.tables c.in-Err-take-event.ensures
+    (g.S.Source.flow c.next_head.new.source) c.in-Ok.head c.in-Ok.ensures c.in-Err-take_event.refusal c.take_event.new.tables c.in-Err-take_event.ensures
 
-pub returns-then-is-document-end : goal.returns-then-is-document-end
-returns-then-is-document-end g c =
+pub returns-then-is_document_end : goal.returns-then-is_document_end
+returns-then-is_document_end g c =
     let one = c.in-Ok.ensures in
     let begin = c.args.begin.now in
     going_done c.args.spaces (start_marked begin) (g.S.Source.flow c.args.source.now) c.args.tables.now (g.S.Source.flow c.loop-head.source) c.loop-head.tables c.loop-head.invariant
-    (g.S.Source.flow c.next-head.new.source) c.in-Ok.head one c.take-event.new.tables c.in-default.ensures (sym c.is-document-end.ensures ∙ c.if-is-document-end.true)
+    (g.S.Source.flow c.next_head.new.source) c.in-Ok.head one c.take_event.new.tables c.in_default.ensures (sym c.is_document_end.ensures ∙ c.if-is_document_end.true)
     _ (λ i. record {
-      nodes = c.node-count.ensures i;
-      links = c.link-count.ensures i;
-      text = c.text-count.ensures i;
-      anchors = c.anchor-count.ensures i;
+      nodes = c.node_count.ensures i;
+      links = c.link_count.ensures i;
+      text = c.text_count.ensures i;
+      anchors = c.anchor_count.ensures i;
       start_implicit = eqb begin.flags 1;
       end_implicit = eqb (one.told i).flags 1;
       start = begin.start;
@@ -50,4 +50,4 @@ returns-then-is-document-end g c =
 pub loop-head-preserved : goal.loop-head-preserved
 loop-head-preserved g c =
     going_on c.args.spaces (start_marked c.args.begin.now) (g.S.Source.flow c.args.source.now) c.args.tables.now (g.S.Source.flow c.loop-head.source) c.loop-head.tables c.loop-head.invariant
-    (g.S.Source.flow c.next-head.new.source) c.in-Ok.head c.in-Ok.ensures c.take-event.new.tables c.in-default.ensures (sym c.is-document-end.ensures ∙ c.if-is-document-end.false)
+    (g.S.Source.flow c.next_head.new.source) c.in-Ok.head c.in-Ok.ensures c.take_event.new.tables c.in_default.ensures (sym c.is_document_end.ensures ∙ c.if-is_document_end.false)

@@ -4,4 +4,4 @@ use Rattle.walk.proofs.Numbers.{SoFar, root_links}
 use Rattle.walk.proofs.count.anchor_node.Given as goal
 
 abbrev pub invariant-loop-i : goal.invariant-loop-i
-invariant-loop-i l = SoFar (book_of l.d).nodes (drop l.i (root_links (book_of l.d).nodes)) (l.i + 1) l.counting l.last-anchor-id
+invariant-loop-i l = SoFar (book_of l.d).nodes (drop l.i (root_links (book_of l.d).nodes)) (l.i + 1) l.counting l.last_anchor_id

@@ -2,13 +2,13 @@ use Rattle.std.proofs.Common.{sym, ◌∙◌}
 use Rattle.walk.proofs.Lacking.{lacking_here, lacking_later, lacking_none}
 use Rattle.walk.proofs.planning.first_lacking.Goals as goal
 
-pub returns-then-lacks-anchor : goal.returns-then-lacks-anchor
-returns-then-lacks-anchor c =
-    sym (lacking_here c.args.counting.now c.args.steps.now c.loop-i.i c.loop-i-test.true (sym c.lacks-anchor.ensures ∙ c.if-lacks-anchor.true)) ∙ c.loop-i.invariant
+pub returns-then-lacks_anchor : goal.returns-then-lacks_anchor
+returns-then-lacks_anchor c =
+    sym (lacking_here c.args.counting.now c.args.steps.now c.loop-i.i c.loop-i-test.true (sym c.lacks_anchor.ensures ∙ c.if-lacks_anchor.true)) ∙ c.loop-i.invariant
 
 pub loop-i-preserved : goal.loop-i-preserved
 loop-i-preserved c =
-    sym (lacking_later c.args.counting.now c.args.steps.now c.loop-i.i c.loop-i-test.true (sym c.lacks-anchor.ensures ∙ c.if-lacks-anchor.false)) ∙ c.loop-i.invariant
+    sym (lacking_later c.args.counting.now c.args.steps.now c.loop-i.i c.loop-i-test.true (sym c.lacks_anchor.ensures ∙ c.if-lacks_anchor.false)) ∙ c.loop-i.invariant
 
 pub returns : goal.returns
 returns c = sym (lacking_none c.args.counting.now c.args.steps.now c.loop-i.i c.loop-i-test.false) ∙ c.loop-i.invariant

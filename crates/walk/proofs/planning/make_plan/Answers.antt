@@ -17,8 +17,8 @@ returns-then-counting-nodes c =
       determined = determined;
     }
 
-pub anchor-node-requires : goal.anchor-node-requires
-anchor-node-requires c =
+pub anchor_node-requires : goal.anchor_node-requires
+anchor_node-requires c =
     let long = c.len-nodes.ensures in
     record {
       some = omega arith;
@@ -29,9 +29,9 @@ anchor-node-requires c =
 
 pub returns : goal.returns
 returns c =
-    let same : length c.anchor-node.new.counting ≡ length c.args.counting.now = omega (arith, c.clear.auto.table, c.anchor-node.auto.counting) in
+    let same : length c.anchor_node.new.counting ≡ length c.args.counting.now = omega (arith, c.clear.auto.table, c.anchor_node.auto.counting) in
     record {
       counter = c.drop-guard-2.ensures;
-      plan = subst (λ (n : ℕ). Plans (book_of c.args.d.now).nodes n c.args.steps.now c.plan-walk.result c.plan-walk.new.counting c.plan-walk.new.steps) same c.plan-walk.ensures;
+      plan = subst (λ (n : ℕ). Plans (book_of c.args.d.now).nodes n c.args.steps.now c.plan_walk.result c.plan_walk.new.counting c.plan_walk.new.steps) same c.plan_walk.ensures;
       determined = determined;
     }

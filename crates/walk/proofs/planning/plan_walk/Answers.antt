@@ -6,45 +6,45 @@ use Rattle.walk.proofs.Goings.{visited_none, visited_some}
 use Rattle.walk.proofs.Planned.{deep, few_steps, unnamed, ready}
 use Rattle.walk.proofs.planning.plan_walk.Goals as goal
 
-pub returns-in-default : goal.returns-in-default
-returns-in-default c =
+pub returns-in_default : goal.returns-in_default
+returns-in_default c =
     let b = book_of c.args.d.now in
     let t = c.args.counting.now in
     let s = c.args.steps.now in
     deep b t s c.sound.ensures c.requires
-    (visited_none b.nodes 0 1 (state t s 0) c.dump-node-walked.new.counting c.dump-node-walked.new.steps c.dump-node-walked.result c.dump-node-walked.ensures c.in-default.is)
+    (visited_none b.nodes 0 1 (state t s 0) c.dump_node-walked.new.counting c.dump_node-walked.new.steps c.dump_node-walked.result c.dump_node-walked.ensures c.in_default.is)
 
 pub returns-then-count-steps : goal.returns-then-count-steps
 returns-then-count-steps c =
     let b = book_of c.args.d.now in
     let t = c.args.counting.now in
     let s = c.args.steps.now in
-    let t' = c.dump-node-walked.new.counting in
-    let s' = c.dump-node-walked.new.steps in
+    let t' = c.dump_node-walked.new.counting in
+    let s' = c.dump_node-walked.new.steps in
     let n = c.in-To.count in
-    let went = visited_some b.nodes 0 1 (state t s 0) t' s' c.dump-node-walked.result n c.dump-node-walked.ensures c.in-To.is in
-    few_steps b t t' s s' n c.sound.ensures c.requires went (omega (arith, c.if-count-steps.true, c.dump-node-walked.auto.steps))
+    let went = visited_some b.nodes 0 1 (state t s 0) t' s' c.dump_node-walked.result n c.dump_node-walked.ensures c.in-To.is in
+    few_steps b t t' s s' n c.sound.ensures c.requires went (omega (arith, c.if-count-steps.true, c.dump_node-walked.auto.steps))
 
-pub returns-in-default-lacking : goal.returns-in-default-lacking
-returns-in-default-lacking c =
+pub returns-in_default-lacking : goal.returns-in_default-lacking
+returns-in_default-lacking c =
     let b = book_of c.args.d.now in
     let t = c.args.counting.now in
     let s = c.args.steps.now in
-    let t' = c.dump-node-walked.new.counting in
-    let s' = c.dump-node-walked.new.steps in
+    let t' = c.dump_node-walked.new.counting in
+    let s' = c.dump_node-walked.new.steps in
     let n = c.in-To.count in
-    let went = visited_some b.nodes 0 1 (state t s 0) t' s' c.dump-node-walked.result n c.dump-node-walked.ensures c.in-To.is in
+    let went = visited_some b.nodes 0 1 (state t s 0) t' s' c.dump_node-walked.result n c.dump_node-walked.ensures c.in-To.is in
     let all : n ≡ n - 0 = omega arith in
-    ready b t t' s s' n c.sound.ensures c.requires went (omega (arith, c.if-count-steps.false, c.dump-node-walked.auto.steps)) (ap (λ k. first_lacking t' (take k s')) all ∙ sym c.first-lacking-lacking.ensures ∙ c.in-default-lacking.is)
+    ready b t t' s s' n c.sound.ensures c.requires went (omega (arith, c.if-count-steps.false, c.dump_node-walked.auto.steps)) (ap (λ k. first_lacking t' (take k s')) all ∙ sym c.first_lacking-lacking.ensures ∙ c.in_default-lacking.is)
 
 pub returns : goal.returns
 returns c =
     let b = book_of c.args.d.now in
     let t = c.args.counting.now in
     let s = c.args.steps.now in
-    let t' = c.dump-node-walked.new.counting in
-    let s' = c.dump-node-walked.new.steps in
+    let t' = c.dump_node-walked.new.counting in
+    let s' = c.dump_node-walked.new.steps in
     let n = c.in-To.count in
-    let went = visited_some b.nodes 0 1 (state t s 0) t' s' c.dump-node-walked.result n c.dump-node-walked.ensures c.in-To.is in
+    let went = visited_some b.nodes 0 1 (state t s 0) t' s' c.dump_node-walked.result n c.dump_node-walked.ensures c.in-To.is in
     let all : n ≡ n - 0 = omega arith in
-    unnamed b t t' s s' n c.in-Some.node c.sound.ensures c.requires went (omega (arith, c.if-count-steps.false, c.dump-node-walked.auto.steps)) (ap (λ k. first_lacking t' (take k s')) all ∙ sym c.first-lacking-lacking.ensures ∙ c.in-Some.is)
+    unnamed b t t' s s' n c.in-Some.node c.sound.ensures c.requires went (omega (arith, c.if-count-steps.false, c.dump_node-walked.auto.steps)) (ap (λ k. first_lacking t' (take k s')) all ∙ sym c.first_lacking-lacking.ensures ∙ c.in-Some.is)

@@ -5,8 +5,8 @@ use Rattle.composer.specs.declared.frames.Frame.{Frame}
 use Rattle.composer.proofs.Opening.{open_split, open_changed}
 use Rattle.composer.proofs.frames.Frames.count_child.Goals as goal
 
-pub overflow-add-self : goal.overflow-add-self
-overflow-add-self c =
+pub overflow_add-self : goal.overflow_add-self
+overflow_add-self c =
     let n = c.args.self.now.count in
     let xs = c.args.self.now.all in
     let k = c.len-held.result in

@@ -24,7 +24,7 @@ returns c =
     let spaced = c.requires.sound.links.spaced in
     let room : length (contents t.links) + length (take (length held - from) (drop from held)) ≤ room_of t.links = omega arith in
     let grown = surely_grown t.links c.extend-placed.new.self (take (length held - from) (drop from held)) c.extend-placed.result room c.extend-placed.ensures in
-    closed sp t c.requires.sound f c.args.end c.len-first.result from c.link-node.new.nodes c.extend-placed.new.self c.shorten.new.self c.pop.new.self
+    closed sp t c.requires.sound f c.args.end c.len-first.result from c.link_node.new.nodes c.extend-placed.new.self c.shorten.new.self c.pop.new.self
     c.in-Some.ensures c.len-first.ensures.held (ap (λ n. n - f.children) long)
     (subst (λ xs. Grown t.links xs c.extend-placed.new.self) slice grown)
-    c.shorten.ensures c.link-node.ensures c.pop.ensures
+    c.shorten.ensures c.link_node.ensures c.pop.ensures

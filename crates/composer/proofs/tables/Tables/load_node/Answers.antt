@@ -24,13 +24,13 @@ returns c =
     noded c.args.spaces t c.requires.sound c.args.kind c.args.style c.args.tag.now c.args.value.now c.args.start c.args.end _ c.push.new.self c.extend.new.self c.extend-2.new.self
     (omega arith) (omega arith)
     (λ i. record {
-      kind = c.kind-number.ensures i;
+      kind = c.kind_number.ensures i;
       style = c.args.style;
       tag_length = length c.args.tag.now;
       value_length = length c.args.value.now;
       filler = 0;
       tag_start = place i;
-      value_start = (c.value-place.ensures ∙ ap (λ n. value_place c.args.kind (n + length c.args.tag.now)) place) i;
+      value_start = (c.value_place.ensures ∙ ap (λ n. value_place c.args.kind (n + length c.args.tag.now)) place) i;
       first_link = 0;
       link_count = 0;
       start = c.args.start;

@@ -8,5 +8,5 @@ returns c =
     let waiting = c.len-2.ensures.held in
     let links = c.len-3.ensures.held in
     let waiting-too = c.len-4.ensures.held in
-    added c.args.spaces c.args.self.now c.requires.sound c.args.start c.args.number c.push.new.self c.count-child.new.self
-    (omega arith) (omega arith) (omega arith) c.if-not-push.ensures c.count-child.ensures
+    added c.args.spaces c.args.self.now c.requires.sound c.args.start c.args.number c.push.new.self c.count_child.new.self
+    (omega arith) (omega arith) (omega arith) c.if-not-push.ensures c.count_child.ensures

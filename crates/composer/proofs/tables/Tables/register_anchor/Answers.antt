@@ -8,6 +8,6 @@ returns c =
     let bytes = c.args.anchor.now in
     let held = c.len.ensures.held in
     let newest = c.len-newest.ensures.held in
-    registered c.args.spaces c.args.self.now c.requires.sound bytes c.args.start c.anchor-entry.result c.push.new.self
-    c.if-anchor-eq0.false (ap (λ l. found l bytes) (sym c.entries.ensures) ∙ sym c.in-default.ensures) (omega arith)
-    (c.anchor-entry.ensures ∙ ap (entry_of bytes) newest) c.if-not-push.ensures
+    registered c.args.spaces c.args.self.now c.requires.sound bytes c.args.start c.anchor_entry.result c.push.new.self
+    c.if-anchor-eq0.false (ap (λ l. found l bytes) (sym c.entries.ensures) ∙ sym c.in_default.ensures) (omega arith)
+    (c.anchor_entry.ensures ∙ ap (entry_of bytes) newest) c.if-not-push.ensures

@@ -1,5 +1,5 @@
 use Rattle.document.proofs.Lookups.{links_within}
 use Rattle.document.proofs.standing.Document.links.Goals as goal
 
-pub slice-bounds-result-end : goal.slice-bounds-result-end
-slice-bounds-result-end c = links_within c.args.self.now c.args.number c.in-Some.node.now c.in-Some.ensures.found
+pub slice_bounds-result-end : goal.slice_bounds-result-end
+slice_bounds-result-end c = links_within c.args.self.now c.args.number c.in-Some.node.now c.in-Some.ensures.found

@@ -12,14 +12,14 @@ returns-then-len-eq0 g c =
     let b = book_of c.args.d.now in
     let h = handed b (length c.args.counting.now) (length c.args.steps.now) in
     let s = state_of g.S.Sink.view c.args.self.now in
-    let t = state_of g.S.Sink.view c.write-nothing-handed.new.self in
+    let t = state_of g.S.Sink.view c.write_nothing-handed.new.self in
     let none : length b.nodes ≡ 0 = sym c.len.ensures ∙ c.if-len-eq0.true in
     record {
       called = subst (λ r. Called g.S.Sink.weight (dumping h) s (answer_of r) t) (sym c.answer.ensures)
-          (called_by g.S.Sink.weight (dumping h) s _ c.write-nothing-handed.result t c.write-nothing-handed.new.events
-          (passes_empty s h none c.if-self.false) (wants_nothing s h none) c.write-nothing-handed.ensures.goes);
-      told = subst (Told b) (sym c.answer.ensures) (told_answered b c.write-nothing-handed.new.events c.write-nothing-handed.result);
-      rests = λ e. c.write-nothing-handed.ensures.rests ∙ e;
+          (called_by g.S.Sink.weight (dumping h) s _ c.write_nothing-handed.result t c.write_nothing-handed.new.events
+          (passes_empty s h none c.if-self.false) (wants_nothing s h none) c.write_nothing-handed.ensures.goes);
+      told = subst (Told b) (sym c.answer.ensures) (told_answered b c.write_nothing-handed.new.events c.write_nothing-handed.result);
+      rests = λ e. c.write_nothing-handed.ensures.rests ∙ e;
     }
 
 pub write-handed-requires : goal.write-handed-requires
@@ -31,7 +31,7 @@ write-handed-requires g c =
     record {
       unspoilt = c.if-self.false;
       numbers = record { anchors = plan.anchors_hold; few = plan.anchors_few };
-      allowed = planned_allowed s h c.args.steps.now c.in-Planned.count c.make-plan-plan.new.counting c.make-plan-plan.new.steps plan c.sound.ensures;
+      allowed = planned_allowed s h c.args.steps.now c.in-Planned.count c.make_plan-plan.new.counting c.make_plan-plan.new.steps plan c.sound.ensures;
       few = omega (arith, c.space-space.ensures);
     }
 
@@ -54,8 +54,8 @@ returns-in-Planned g c =
     let t = state_of g.S.Sink.view c.write-handed.new.self in
     let plan = c.in-Planned.ensures.plan in
     let count = c.in-Planned.count in
-    let table = c.make-plan-plan.new.counting in
-    let held = c.make-plan-plan.new.steps in
+    let table = c.make_plan-plan.new.counting in
+    let held = c.make_plan-plan.new.steps in
     record {
       called = subst (λ r. Called g.S.Sink.weight (dumping h) s (answer_of r) t) (sym c.answer-in-Planned.ensures)
           (called_by g.S.Sink.weight (dumping h) s _ c.write-handed.result t c.write-handed.new.events

@@ -4,17 +4,17 @@ use Rattle.runs.specs.Writer.{end_due}
 use Rattle.dumper.proofs.Going.{goes_left, goes_as, goes_before, goes_then, went_of, start_no_document, still_closed}
 use Rattle.dumper.proofs.writer.Writer.write_nothing.Goals as goal
 
-pub returns-in-err-start : goal.returns-in-err-start
-returns-in-err-start g c =
+pub returns-in_err-start : goal.returns-in_err-start
+returns-in_err-start g c =
     record {
-      goes = goes_left (err_from_is_err_and c.from-residual.result c.from-residual.ensures.1) (goes_before (end_due c.args.self.now.closed) c.in-err-start.ensures.goes);
-      rests = c.in-err-start.ensures.rests;
+      goes = goes_left (err_from_is_err_and c.from_residual.result c.from_residual.ensures.1) (goes_before (end_due c.args.self.now.closed) c.in_err-start.ensures.goes);
+      rests = c.in_err-start.ensures.rests;
     }
 
 pub returns : goal.returns
 returns g c =
-    let first = went_of c.in-ok-start.ensures.goes in
+    let first = went_of c.in_ok-start.ensures.goes in
     record {
       goes = goes_then first (start_no_document c.args.self.now.opened) (goes_as (ap end_due (still_closed c.args.self.now.opened first.took)) c.finish.ensures.goes);
-      rests = c.finish.ensures.rests ∙ c.in-ok-start.ensures.rests;
+      rests = c.finish.ensures.rests ∙ c.in_ok-start.ensures.rests;
     }

@@ -3,9 +3,9 @@ use Rattle.model.specs.Reading.{reading}
 use Rattle.lines.specs.Lawful.{short}
 use Rattle.lines.proofs.writer.LineWriter.new.Goals as goal
 
-pub invariant-of-result : goal.invariant-of-result
+pub invariant_of-result : goal.invariant_of-result
 unfolding reading
-invariant-of-result c = (omega arith, (omega arith, (refl, tt)))
+invariant_of-result c = (omega arith, (omega arith, (refl, tt)))
 
 pub returns : goal.returns
 unfolding reading

@@ -3,9 +3,9 @@ use Rattle.model.specs.Reading.{reading}
 use Rattle.packed.specs.Lawful.{size_bound}
 use Rattle.packed.proofs.writer.PackedWriter.new.Goals as goal
 
-pub invariant-of-result : goal.invariant-of-result
+pub invariant_of-result : goal.invariant_of-result
 unfolding reading
-invariant-of-result c = (omega arith, (refl, tt))
+invariant_of-result c = (omega arith, (refl, tt))
 
 pub returns : goal.returns
 unfolding reading

@@ -5,8 +5,8 @@ use Rattle.yaml.specs.Puts.{puts}
 use Rattle.packed.specs.Packed.{packed_front}
 use Rattle.packed.proofs.writer.PackedWriter.put.Goals as goal
 
-pub invariant-of-self : goal.invariant-of-self
-invariant-of-self c =
+pub invariant_of-self : goal.invariant_of-self
+invariant_of-self c =
     let w = c.loop-i.self in
     let behind : w.used ≤ c.args.at + c.loop-i.i = omega arith in (
       simp length-set w.inside,

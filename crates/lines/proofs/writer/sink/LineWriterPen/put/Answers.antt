@@ -4,8 +4,8 @@ use Rattle.model.specs.Reading.{read_all, fault_number}
 use Rattle.lines.specs.Line.{line_front}
 use Rattle.lines.proofs.writer.sink.LineWriterPen.put.Goals as goal
 
-pub invariant-of-self : goal.invariant-of-self
-invariant-of-self c =
+pub invariant_of-self : goal.invariant_of-self
+invariant_of-self c =
     let w = c.args.self.now in (
       omega (arith, w.behind),
       (

@@ -8,12 +8,12 @@ use Rattle.lines.specs.Lawful.{lines_format}
 use Rattle.lines.proofs.Storing.{same_length, one_line_more}
 use Rattle.lines.proofs.writer.sink.LineWriterSink.take.Goals as goal
 
-pub invariant-of-self-2 : goal.invariant-of-self-2
-invariant-of-self-2 c =
+pub invariant_of-self-2 : goal.invariant_of-self-2
+invariant_of-self-2 c =
     let w = c.args.self.now in
-    let after = c.write-line.new.pen in
+    let after = c.write_line.new.pen in
     let e = ev_of c.args.e.now in
-    let stored = c.write-line.ensures in
+    let stored = c.write_line.ensures in
     let size = sized weight_of e c.in-Some.size c.in-Some.ensures in
     let more = one_line_more w.out.now after.out.now w.used after.at (line_of e) stored.slice stored.place after.inside in
     (omega arith, (after.inside, ((taken_more lines_format (held w) (take after.at after.out.now) e w.whole size.0 more).1, tt)))

@@ -3,5 +3,5 @@ use Rattle.yaml.specs.Shapes.{ev_of}
 use Rattle.packed.specs.Lawful.{size_bound}
 use Rattle.packed.proofs.writer.sink.PackedWriterSink.size.Goals as goal
 
-pub overflow-cast-result : goal.overflow-cast-result
-overflow-cast-result c = let b = size_bound (ev_of c.args.e.now) (sym c.if-not-allowed.ensures) in omega arith
+pub overflow_cast-result : goal.overflow_cast-result
+overflow_cast-result c = let b = size_bound (ev_of c.args.e.now) (sym c.if-not-allowed.ensures) in omega arith

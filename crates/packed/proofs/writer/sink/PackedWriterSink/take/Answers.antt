@@ -6,15 +6,15 @@ use Rattle.packed.specs.Writes.{held}
 use Rattle.packed.specs.Lawful.{packed_format}
 use Rattle.packed.proofs.writer.sink.PackedWriterSink.take.Goals as goal
 
-pub invariant-of-self : goal.invariant-of-self
-invariant-of-self c =
+pub invariant_of-self : goal.invariant_of-self
+invariant_of-self c =
     let w = c.args.self.now in
     let e = ev_of c.args.e.now in
     let size = sized size_of e c.in-Some.size c.in-Some.ensures in
-    let stored = c.put-event.ensures in
-    let end : c.put-event.new.self.used + c.in-Some.size ≡ w.used + size_of e = omega arith in (
+    let stored = c.put_event.ensures in
+    let end : c.put_event.new.self.used + c.in-Some.size ≡ w.used + size_of e = omega arith in (
       omega (arith, w.inside),
-      ((taken_more packed_format (held w) (take (c.put-event.new.self.used + c.in-Some.size) c.put-event.new.self.out.now) e w.whole size.0 (ap (λ n. take n c.put-event.new.self.out.now) end ∙ stored.bytes)).1, tt),
+      ((taken_more packed_format (held w) (take (c.put_event.new.self.used + c.in-Some.size) c.put_event.new.self.out.now) e w.whole size.0 (ap (λ n. take n c.put_event.new.self.out.now) end ∙ stored.bytes)).1, tt),
     )
 
 pub returns : goal.returns
