@@ -5,7 +5,7 @@ use Rattle.packed.proofs.writer.PackedWriter.new.Goals as goal
 
 pub invariant_of-result : goal.invariant_of-result
 unfolding reading
-invariant_of-result c = (omega arith, (refl, tt))
+invariant_of-result c = record { inside = omega arith; whole = refl }
 
 pub returns : goal.returns
 unfolding reading

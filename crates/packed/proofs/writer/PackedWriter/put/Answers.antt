@@ -8,10 +8,11 @@ use Rattle.packed.proofs.writer.PackedWriter.put.Goals as goal
 pub invariant_of-self : goal.invariant_of-self
 invariant_of-self c =
     let w = c.loop-i.self in
-    let behind : w.used ≤ c.args.at + c.loop-i.i = omega arith in (
-      simp length-set w.inside,
-      (ap (λ l. fault_number (read_all packed_front l).after) (take-set-le w.used w.out.now (c.args.at + c.loop-i.i) (get_or c.args.bytes.now c.loop-i.i 0) behind) ∙ w.whole, tt),
-    )
+    let behind : w.used ≤ c.args.at + c.loop-i.i = omega arith in
+    record {
+      inside = simp length-set w.inside;
+      whole = ap (λ l. fault_number (read_all packed_front l).after) (take-set-le w.used w.out.now (c.args.at + c.loop-i.i) (get_or c.args.bytes.now c.loop-i.i 0) behind) ∙ w.whole;
+    }
 
 pub loop-i-preserved : goal.loop-i-preserved
 loop-i-preserved c =

@@ -6,10 +6,9 @@ use Rattle.lines.proofs.writer.sink.LineWriterPen.put.Goals as goal
 
 pub invariant_of-self : goal.invariant_of-self
 invariant_of-self c =
-    let w = c.args.self.now in (
-      omega (arith, w.behind),
-      (
-        omega (arith, length-set w.out.now w.at c.args.byte, c.requires),
-        (ap (λ l. fault_number (read_all line_front l).after) (take-set-le w.used w.out.now w.at c.args.byte w.behind) ∙ w.whole, tt),
-      ),
-    )
+    let w = c.args.self.now in
+    record {
+      behind = omega (arith, w.behind);
+      inside = omega (arith, length-set w.out.now w.at c.args.byte, c.requires);
+      whole = ap (λ l. fault_number (read_all line_front l).after) (take-set-le w.used w.out.now w.at c.args.byte w.behind) ∙ w.whole;
+    }

@@ -16,7 +16,11 @@ invariant_of-self-2 c =
     let stored = c.write_line.ensures in
     let size = sized weight_of e c.in-Some.size c.in-Some.ensures in
     let more = one_line_more w.out.now after.out.now w.used after.at (line_of e) stored.slice stored.place after.inside in
-    (omega arith, (after.inside, ((taken_more lines_format (held w) (take after.at after.out.now) e w.whole size.0 more).1, tt)))
+    record {
+      behind = omega arith;
+      inside = after.inside;
+      whole = (taken_more lines_format (held w) (take after.at after.out.now) e w.whole size.0 more).1;
+    }
 
 pub returns : goal.returns
 returns c =

@@ -12,10 +12,11 @@ invariant_of-self c =
     let e = ev_of c.args.e.now in
     let size = sized size_of e c.in-Some.size c.in-Some.ensures in
     let stored = c.put_event.ensures in
-    let end : c.put_event.new.self.used + c.in-Some.size ≡ w.used + size_of e = omega arith in (
-      omega (arith, w.inside),
-      ((taken_more packed_format (held w) (take (c.put_event.new.self.used + c.in-Some.size) c.put_event.new.self.out.now) e w.whole size.0 (ap (λ n. take n c.put_event.new.self.out.now) end ∙ stored.bytes)).1, tt),
-    )
+    let end : c.put_event.new.self.used + c.in-Some.size ≡ w.used + size_of e = omega arith in
+    record {
+      inside = omega (arith, w.inside);
+      whole = (taken_more packed_format (held w) (take (c.put_event.new.self.used + c.in-Some.size) c.put_event.new.self.out.now) e w.whole size.0 (ap (λ n. take n c.put_event.new.self.out.now) end ∙ stored.bytes)).1;
+    }
 
 pub returns : goal.returns
 returns c =
