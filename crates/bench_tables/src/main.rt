@@ -1,4 +1,6 @@
 // Measures clearing full-sized tables; without the word `measure` it clears each once and says nothing.
+#![tactic(auto)]
+
 use document::Node;
 use document::limits::{MAX_LINKS, MAX_NODES, MAX_TEXT};
 use std::env;

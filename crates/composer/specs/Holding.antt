@@ -1,6 +1,6 @@
 -- What the tables of the code hold, as the plain lists of the definition, and what stays true of them while a document is composed.
 use Rattle.std.specs.Prelude.{◌≡◌, ℕ, ◌+◌, ◌≤◌, min, List, [], ◌∷◌, length, Ok, Err, Result}
-use Rattle.std.specs.Borrow.{GName, Bor}
+use Rattle.std.specs.Borrow.{GName, MutBor}
 use Rattle.tables.specs.declared.stack.Stack.{Stack}
 use Rattle.tables.specs.Stacks.{contents, room_of, Clean, Made, SameTable}
 use Rattle.document.specs.declared.node.Node.{Node}
@@ -56,7 +56,7 @@ base_of t = record {
 }
 
 -- they stand over these tables, and hold nothing yet
-pub record Standing (nodes : Bor (List Node)) (links : Bor (List ℕ)) (text : Bor (List ℕ)) (anchors : Bor (List Anchor)) (waiting : Bor (List ℕ)) (t : Tables) : Type 0 where
+pub record Standing (nodes : MutBor (List Node)) (links : MutBor (List ℕ)) (text : MutBor (List ℕ)) (anchors : MutBor (List Anchor)) (waiting : MutBor (List ℕ)) (t : Tables) : Type 0 where
   pub nodes_made : Made nodes t.nodes
   pub links_made : Made links t.links
   pub text_made : Made text t.text

@@ -1,4 +1,6 @@
 // Composing one document: what each event does to the tables. docs/REFUSALS.md has the questions in their order.
+#![tactic(auto)]
+
 pub mod anchor;
 pub mod frames;
 pub mod names;

@@ -1,4 +1,6 @@
 // Handing on what a source gives to a sink, over any source and any sink; and what it will need, told beforehand.
+#![tactic(auto)]
+
 pub mod convert;
 pub mod copy;
 pub mod survey;

@@ -1,5 +1,7 @@
 // The differences from the Rust original and from YAML 1.1 that docs/DIFFERENCES.md names: each line of the file `stdin` beside this folder has a name and
 // an input, and what this library answers must be what the file `stdout` says.
+#![tactic(auto)]
+
 use std::io::{Read, Write};
 use transcript::tell_lists;
 

@@ -1,4 +1,6 @@
 // Documents as tables of nodes, links and text: the node's record, the check that a Document passed, and reading one.
+#![tactic(auto)]
+
 pub mod check;
 pub mod limits;
 pub mod node;

@@ -1,4 +1,6 @@
 // Small documents at each limit and one past it: what the check says of them, and what reading them gives.
+#![tactic(auto)]
+
 use document::{Document, Node, question_number};
 use tables::Empty;
 

@@ -1,4 +1,6 @@
 // Writing Documents: each is walked over and handed on to a sink, event by event.
+#![tactic(auto)]
+
 pub mod answer;
 mod hand;
 mod node;

@@ -1,4 +1,6 @@
 // Small documents, and what writing them hands on and answers.
+#![tactic(auto)]
+
 use document::Node;
 use dumper::{Refused, why_number};
 use tables::Empty;

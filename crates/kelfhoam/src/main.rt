@@ -1,4 +1,6 @@
 // The program: reads the command line, does what it asks for, and tells what it did.
+#![tactic(auto)]
+
 mod checking;
 mod command;
 mod converting;

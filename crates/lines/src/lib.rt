@@ -1,4 +1,6 @@
 // The line format of events: a reader, which is a source of events, and a writer, which is a sink.
+#![tactic(auto)]
+
 mod byte;
 mod compare;
 mod count;

@@ -1,4 +1,6 @@
 // Examples of lines: read, refused and written.
+#![tactic(auto)]
+
 use lines::{LineReader, LineWriter};
 use yaml::event::cause_number;
 use yaml::sink::refusal_number;

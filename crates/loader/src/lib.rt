@@ -1,4 +1,6 @@
 // Loading documents: from a source's events to tables, one document a call.
+#![tactic(auto)]
+
 pub mod answer;
 pub mod events;
 pub mod loader;

@@ -1,4 +1,6 @@
 // Streams at each limit of the loader and one past it, and streams in a wrong order.
+#![tactic(auto)]
+
 use composer::refusal::Refusal;
 use composer::{Anchor, Tables, refusal_mark, refusal_number};
 use document::{Document, Node};

@@ -1,5 +1,6 @@
 // What the words of this project mean: events and their rules, what a format of events is, and the theorems about them.
 // The definitions are in specs/; here stand only the plain records that the definitions and the code share.
+#![tactic(auto)]
 
 pub mod theorems;
 

@@ -1,4 +1,6 @@
 // The packed format of events: a head of nine bytes, then the texts.
+#![tactic(auto)]
+
 pub mod head;
 pub mod reader;
 pub mod writer;

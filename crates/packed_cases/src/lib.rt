@@ -1,4 +1,6 @@
 // Examples of packed events: read, refused, written and converted.
+#![tactic(auto)]
+
 use convert::{End, hand_all};
 use lines::LineReader;
 use packed::{PackedReader, PackedWriter};

@@ -1,4 +1,6 @@
 // Loading every document of a source and dumping it into a sink: opens, dumps each, and closes at the stream's end.
+#![tactic(auto)]
+
 use composer::Tables;
 use document::Document;
 use dumper::{Refused, Writer};

@@ -1,5 +1,7 @@
 // Replays a fixed sample of lists: what this library answers must be, byte for byte, what the Rust original answered (docs/DIFFERENCES.md tells how
 // the file `stdout` beside this folder was made from the original).
+#![tactic(auto)]
+
 use std::io::{Read, Write};
 use transcript::tell_lists;
 

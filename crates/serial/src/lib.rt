@@ -1,5 +1,7 @@
 // Serializing a document and composing it again: the definitions are in specs/, the proofs of what is said of them in proofs/.
 // Here each theorem stands on the contract of a function that does nothing.
+#![tactic(auto)]
+
 ghost use Rattle.serial.specs.RoundTrip.{RoundTripAnchored, ComposedAlike};
 ghost use Rattle.serial.specs.Theorems.{WalksStand, OneDocument};
 

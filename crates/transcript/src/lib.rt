@@ -1,5 +1,7 @@
 // What loading and redumping a list of packed events comes to, told as text: every load with its nodes, links and marks, the refusal or the
 // stream's end, and the events written.
+#![tactic(auto)]
+
 pub mod hex;
 pub mod listing;
 pub mod telling;

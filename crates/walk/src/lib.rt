@@ -1,4 +1,6 @@
 // Before a Document is written: which of its nodes get an anchor, how an anchor is written, and the steps of the walk over its nodes.
+#![tactic(auto)]
+
 mod count;
 mod dump;
 pub mod entry;

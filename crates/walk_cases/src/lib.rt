@@ -1,4 +1,6 @@
 // Small documents and what planning says of them: which nodes get an anchor, the steps, and each refusal.
+#![tactic(auto)]
+
 use document::{Document, Node};
 use tables::Empty;
 use walk::{Counted, Plan, Step, anchor_of, generate_anchor, make_plan};

@@ -1,4 +1,6 @@
 // Examples of loading and dumping, whole, as a theorem about the definitions.
+#![tactic(auto)]
+
 ghost use Rattle.worked.specs.Worked.{Worked};
 
 // Each example comes out as it says; the function does nothing.

@@ -1,4 +1,6 @@
 // The records of YAML events, the two interfaces through which events come and go, and what each of them promises.
+#![tactic(auto)]
+
 pub mod event;
 pub mod sink;
 pub mod source;
