@@ -11,4 +11,4 @@ pub returns : goal.returns
 returns g c =
     let graph = (book_of c.args.d.now).nodes in
     let event = end_event (anchor_of graph) graph c.args.node c.in-Some.kind c.in-Some.ensures in
-    hands_as (ap (λ e. due_of c.args.node e ∷ []) (c.plain_event.ensures ∙ ap (λ k. plain k 0) c.end_kind.ensures) ∙ sym (ap (map (due_of c.args.node)) event)) c.hand.ensures
+    hands_as (ap (λ e. due_of c.args.node e ∷ []) (c.plain-event.ensures ∙ ap (λ k. plain k 0) c.end_kind.ensures) ∙ sym (ap (map (due_of c.args.node)) event)) c.hand.ensures

@@ -11,6 +11,6 @@ returns-in_err-hand g c =
     record {
       goes = goes_left (err_from_is_err_and c.from_residual.result c.from_residual.ensures.1)
           (goes_as (end_is self.closed c.if-self.false)
-          (one_cut self.opened self.closed self.spoilt (hands_as (ap (λ e. due_of 0 e ∷ []) c.plain_event.ensures) c.in_err-hand.ensures)));
+          (one_cut self.opened self.closed self.spoilt (hands_as (ap (λ e. due_of 0 e ∷ []) c.plain-event.ensures) c.in_err-hand.ensures)));
       rests = refl;
     }
