@@ -129,7 +129,7 @@ abbrev pub end_due : Bool → List Due
 end_due true = []
 end_due false = due_of 0 stream_end ∷ []
 
--- the events of a document, as `bookEvents` has them, with their nodes
+-- the events of a document, as `book_events` has them, with their nodes
 abbrev pub node_of : Token → ℕ
 node_of (first v) = v
 node_of (again v) = v
