@@ -3,7 +3,6 @@ use Rattle.std.proofs.Common.{◌≡◌, ℕ, ◌+◌, ◌<◌, ltb, List, [], �
 use Rattle.std.proofs.lemmas.Bool.{lt-ltb, cond-true}
 use Rattle.std.proofs.lemmas.List.{take_more, take_more_set}
 use Rattle.model.specs.Events.{Ev}
-use Rattle.model.specs.Reading.{Coming}
 use Rattle.yaml.specs.declared.event.Text.{Text}
 use Rattle.yaml.specs.Shapes.{text_of}
 use Rattle.yaml.specs.Flow.{Flow, byte_of}

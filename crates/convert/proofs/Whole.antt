@@ -1,5 +1,5 @@
 -- An event put together from its head and its copied texts is the latest event.
-use Rattle.std.proofs.Common.{◌≡◌, ℕ, ◌-◌, List, take, Some, None, Option, sym, refl, ap, ◌∙◌, arith}
+use Rattle.std.proofs.Common.{◌≡◌, ℕ, ◌-◌, List, take, ap, ◌∙◌, arith}
 use Rattle.model.specs.Events.{Ev}
 use Rattle.yaml.specs.declared.event.Head.{Head}
 use Rattle.yaml.specs.declared.event.Text.{Text}

@@ -1,5 +1,5 @@
 -- What handing on a source's events to a sink does.
-use Rattle.std.specs.Prelude.{◌≡◌, ℕ, ◌+◌, ◌<◌, List, [], ◌∷◌, ◌++◌, map, length, take, drop, Some, None, Option}
+use Rattle.std.specs.Prelude.{◌≡◌, ℕ, ◌+◌, ◌<◌, List, [], ◌∷◌, ◌++◌, map, length, take, drop, Some, None}
 use Rattle.model.specs.Events.{Ev}
 use Rattle.model.specs.Reading.{Marked, bare}
 use Rattle.yaml.specs.declared.event.Head.{Head}

@@ -1,5 +1,5 @@
 -- The check's answer is determined.
-use Rattle.std.proofs.Common.{◌≡◌, ℕ, ◌+◌, ◌<◌, ◌≤◌, Bool, true, false, cond, eqb, ◌⊎◌, List, length, take, Some, sym, refl, ap, ◌∙◌, inl, inr, ⊎_elim, arith}
+use Rattle.std.proofs.Common.{◌≡◌, ℕ, ◌<◌, ◌≤◌, true, false, cond, eqb, List, length, Some, sym, refl, ap, ◌∙◌, ⊎_elim, arith}
 use Rattle.std.proofs.lemmas.Bool.{both_ways, cases_order}
 use Rattle.model.specs.Graph.{numbered}
 use Rattle.document.specs.declared.node.Node.{Node}
@@ -8,7 +8,7 @@ use Rattle.document.specs.declared.refusal.Question.TheVariants.{Count, Kind, Ta
 use Rattle.document.specs.declared.refusal.Refusal.{Refusal}
 use Rattle.document.specs.Numbers.{question_number}
 use Rattle.document.specs.Questions.{sums_right, kind_right, tag_right, value_right, links_right}
-use Rattle.document.specs.Check.{asked, AllRight, FirstFault, SumsWrong, AllFit, FaultBy, Handed, nodes_in, links_in, text_in, nodes_space, TooMany, Later, RefusedBy, Refused, Fit, Determined}
+use Rattle.document.specs.Check.{asked, AllRight, FirstFault, Handed, nodes_in, links_in, text_in, nodes_space, RefusedBy, Fit, Determined}
 use Rattle.document.proofs.Every.{every_at}
 
 abbrev question_at : ℕ → Question

@@ -1,13 +1,13 @@
 -- From the tables cut to their space back to the tables handed in.
-use Rattle.std.proofs.Common.{◌≡◌, ℕ, ◌-◌, ◌<◌, ◌≤◌, min, Bool, List, length, take, sym, refl, ap, ◌∙◌, subst, ⊎_elim, arith}
+use Rattle.std.proofs.Common.{◌≡◌, ℕ, ◌-◌, ◌≤◌, min, Bool, List, length, take, sym, ap, ◌∙◌, subst, ⊎_elim, arith}
 use Rattle.std.proofs.lemmas.List.{take_all}
 use Rattle.std.proofs.lemmas.Bool.{cases_lt}
 use Rattle.document.specs.declared.node.Node.{Node}
 use Rattle.document.specs.declared.refusal.Question.{Question}
 use Rattle.document.specs.declared.refusal.Question.TheVariants.{Count, Kind, Tag, Value, Links, Sums}
 use Rattle.document.specs.declared.standing.Document.{Document}
-use Rattle.document.specs.Check.{AllRight, AllFit, FaultBy, Handed, nodes_in, links_in, text_in, nodes_space, RefusedBy}
-use Rattle.document.specs.Books.{book_from, book_of, book_on, Stands}
+use Rattle.document.specs.Check.{AllFit, FaultBy, Handed, nodes_in, links_in, text_in, nodes_space, RefusedBy}
+use Rattle.document.specs.Books.{Stands}
 
 pub take_part : {X : Type 0} (n : ℕ) (xs : List X) → take (n - 0) xs ≡ take n xs
 take_part n xs = let e : n - 0 ≡ n = omega arith in ap (λ m. take m xs) e

@@ -1,11 +1,10 @@
 -- The questions of a call, and its answer.
-use Rattle.std.proofs.Common.{◌≡◌, ℕ, zero, suc, ◌+◌, ◌-◌, ◌<◌, ◌≤◌, Bool, true, false, ◌⊎◌, List, [], ◌∷◌, ◌++◌, map, length, take, drop, Ok, Err, Result, sym, refl, ap, ◌∙◌, subst, inl, inr, arith}
+use Rattle.std.proofs.Common.{◌≡◌, ℕ, ◌-◌, ◌≤◌, true, false, List, [], ◌∷◌, ◌++◌, map, length, take, drop, Ok, Err, Result, sym, refl, ap, ◌∙◌, subst, inl, inr, arith}
 use mathlib.Core.List.{Memᴰ}
 use Rattle.std.proofs.lemmas.List.{take_at, length-map, nil_from_length}
 use Rattle.model.specs.Events.{Ev, all_allowed}
 use Rattle.model.specs.Graph.{Vertex, Book}
 use Rattle.serial.specs.Walk.{Token, first, again, leave, Walk}
-use Rattle.serial.specs.Numbering.{number_of}
 use Rattle.serial.specs.Serialize.{book_events}
 use Rattle.serial.proofs.Allowed.{book_allowed}
 use Rattle.document.specs.Sound.{SoundBook}
@@ -18,9 +17,9 @@ use Rattle.runs.proofs.Sounds.{looks_within}
 use Rattle.runs.proofs.Pieces.{anchor_given}
 use Rattle.dumper.specs.declared.answer.Cut.{Cut}
 use Rattle.dumper.specs.Answers.{answer_of, answered}
-use Rattle.dumper.specs.Steps.{token_of, tokens_of}
+use Rattle.dumper.specs.Steps.{tokens_of}
 use Rattle.dumper.specs.States.{Goes, went, broke}
-use Rattle.dumper.specs.Calls.{handed, Told}
+use Rattle.dumper.specs.Calls.{Told}
 
 -- a call that passed its questions is answered by how far its events went
 pub called_by : (weight : Ev → ℕ) (c : Call) (s : State) (ds : List Due) (r : Result (Unit {0}) Cut) (t : State) (m : ℕ)

@@ -1,5 +1,5 @@
 -- The events of steps, read off a Document.
-use Rattle.std.proofs.Common.{◌≡◌, ℕ, ◌+◌, ◌-◌, ◌<◌, ◌≤◌, Bool, true, false, cond, eqb, List, [], ◌∷◌, ◌++◌, map, length, get_or, take, drop, Some, None, Option, sym, refl, ap, ◌∙◌, subst, arith}
+use Rattle.std.proofs.Common.{◌≡◌, ℕ, ◌+◌, ◌-◌, ◌<◌, true, cond, eqb, List, [], ◌∷◌, ◌++◌, length, get_or, take, drop, Some, None, Option, sym, refl, ap, ◌∙◌, arith}
 use Rattle.std.proofs.lemmas.List.{append_assoc, append-nil, map-append, take_more, drop_more, take-append-drop}
 use Rattle.std.proofs.lemmas.Bool.{and_parts, and_from, cond-true, cond-false, eq-eqb, ne_eqb}
 use Rattle.model.specs.declared.EventKind.{EventKind}
@@ -8,9 +8,9 @@ use Rattle.model.specs.Events.{Ev, allowed, all_allowed}
 use Rattle.model.specs.Graph.{Vertex, numbered}
 use Rattle.serial.specs.Walk.{Token, first, again, leave}
 use Rattle.serial.specs.Numbering.{number_of, anchor_of}
-use Rattle.serial.specs.Serialize.{same_bytes, default_tag, all_flags, start_kind, end_kind, plain, alias_event, token_events, walk_events}
+use Rattle.serial.specs.Serialize.{same_bytes, default_tag, all_flags, start_kind, end_kind, plain, token_events, walk_events}
 use Rattle.document.specs.Reads.{given, kind_in, style_in, tag_in, value_in}
-use Rattle.runs.specs.Writer.{Due, due_of, token_dues, walk_dues}
+use Rattle.runs.specs.Writer.{token_dues, walk_dues}
 use Rattle.walk.specs.declared.name.AnchorName.{AnchorName}
 use Rattle.walk.specs.declared.entry.Step.{Step}
 use Rattle.walk.specs.Names.{name_in}

@@ -1,5 +1,5 @@
 -- How the events of a call go on from one writer's state to another.
-use Rattle.std.proofs.Common.{◌≡◌, ℕ, zero, suc, ◌+◌, ◌<◌, ◌≤◌, Bool, true, false, ◌||◌, eqb, ltb, ◌⊎◌, List, [], ◌∷◌, ◌++◌, length, Ok, Err, Result, sym, refl, ap, ◌∙◌, subst, inl, inr, arith}
+use Rattle.std.proofs.Common.{◌≡◌, ℕ, ◌+◌, Bool, true, false, ◌||◌, ltb, ◌⊎◌, List, [], ◌∷◌, ◌++◌, length, Ok, Err, Result, sym, refl, ap, ◌∙◌, subst, inl, inr, arith}
 use Rattle.std.proofs.lemmas.List.{append_assoc, append-nil, length-append}
 use Rattle.std.proofs.lemmas.Bool.{or_parts, both_ways, lt-ltb, le-ltb}
 use Rattle.model.specs.declared.EventKind.{EventKind}
@@ -8,7 +8,7 @@ use Rattle.model.specs.Events.{Ev}
 use Rattle.model.specs.Graph.{Book}
 use Rattle.serial.specs.Walk.{Token}
 use Rattle.yaml.specs.View.{View}
-use Rattle.runs.specs.Writer.{State, Due, due_of, events, total, has_kind, stream_start, stream_end, start_due, end_due, book_dues, Took}
+use Rattle.runs.specs.Writer.{State, Due, due_of, events, has_kind, stream_start, stream_end, start_due, end_due, book_dues, Took}
 use Rattle.runs.proofs.Wanted.{events_append, total_append, kind_append, book_no_start, book_no_end}
 use Rattle.runs.proofs.Moves.{cut_cases, no_cut}
 use Rattle.dumper.specs.declared.answer.Cut.{Cut}

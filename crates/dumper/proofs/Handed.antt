@@ -1,5 +1,5 @@
 -- Handing on some events and then others.
-use Rattle.std.proofs.Common.{◌≡◌, ℕ, ◌+◌, ◌<◌, ◌≤◌, Bool, true, false, List, [], ◌∷◌, ◌++◌, length, Ok, Err, Decides, Result, sym, refl, ap, ◌∙◌, subst, arith}
+use Rattle.std.proofs.Common.{◌≡◌, ℕ, ◌+◌, Bool, true, false, List, [], ◌∷◌, ◌++◌, Ok, Err, Decides, Result, sym, refl, ap, ◌∙◌, subst, arith}
 use Rattle.std.proofs.lemmas.List.{append_assoc, append-nil, length-append}
 use Rattle.std.proofs.lemmas.Bool.{both_ways}
 use Rattle.model.specs.Events.{Ev, allowed}
@@ -8,10 +8,10 @@ use Rattle.yaml.specs.declared.sink.Refusal.TheVariants.{NotAllowed, NoSpace}
 use Rattle.yaml.specs.View.{View, Weighs, Accepted, Full, Took}
 use Rattle.serial.specs.Serialize.{same_bytes}
 use Rattle.serial.proofs.Standing.{bytes_same, bytes_differ}
-use Rattle.runs.specs.Writer.{Due, due_of, events, total}
+use Rattle.runs.specs.Writer.{Due, events}
 use Rattle.runs.proofs.Wanted.{events_append, total_append}
 use Rattle.dumper.specs.declared.answer.Cut.{Cut}
-use Rattle.dumper.specs.Handing.{Countable, AllIn, SomeIn, Hands, all_in, some_in}
+use Rattle.dumper.specs.Handing.{AllIn, SomeIn, Hands, all_in, some_in}
 
 pub all_none : (weight : Ev → ℕ) (v : View) (n : ℕ) → AllIn weight v n [] v n
 all_none weight v n = record { taken = sym (append-nil v.taken); room = omega arith; counted = omega arith; few = omega arith }

@@ -1,10 +1,10 @@
 -- What stands at the front, from the event that the bytes seem to tell.
-use Rattle.std.proofs.Common.{◌≡◌, ℕ, ◌≤◌, Bool, true, false, cond, List, [], length, take, Some, None, Option, sym, refl, ap, ◌∙◌, arith}
+use Rattle.std.proofs.Common.{◌≡◌, ℕ, ◌≤◌, Bool, true, false, cond, List, length, Some, None, sym, refl, ap, ◌∙◌, arith}
 use Rattle.std.proofs.lemmas.List.{length-take, nil_from_length}
 use Rattle.std.proofs.lemmas.Bool.{cond-true, cond-false, and_from, and_left, and_right}
 use Rattle.model.specs.declared.Cause.TheVariants.{NotALine}
 use Rattle.model.specs.Events.{Ev, allowed}
-use Rattle.model.specs.Reading.{Front, nothing, event, fault}
+use Rattle.model.specs.Reading.{nothing, event, fault}
 use Rattle.lines.specs.Line.{line_of, guess, starts_with, is_line_of, front_for, line_front}
 use Rattle.lines.specs.Lawful.{front_some, line_not_empty, lines_format}
 

@@ -1,5 +1,5 @@
 -- A text is read byte by byte into a buffer.
-use Rattle.std.proofs.Common.{◌≡◌, ℕ, ◌+◌, ◌<◌, ◌≤◌, List, [], ◌∷◌, ◌++◌, length, get_or, take, drop, set, sym, refl, ap, ◌∙◌, ap₂, arith}
+use Rattle.std.proofs.Common.{◌≡◌, ℕ, ◌+◌, ◌<◌, ◌≤◌, List, [], ◌∷◌, ◌++◌, length, get_or, take, drop, set, sym, ap, ◌∙◌, arith}
 use Rattle.std.proofs.lemmas.List.{append_assoc, append-nil, length-append, length-take-le, take_more_set}
 use Rattle.lines.specs.Line.{unescaped, untext, past}
 use Rattle.lines.specs.Texts.{untext_escaped, untext_plain, past_escaped, past_plain, untext_ends, past_ends, goes_on}

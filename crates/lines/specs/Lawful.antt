@@ -1,14 +1,14 @@
 -- The lines are a format of events: what was written is read back, and only lines are read.
-use Rattle.std.specs.Prelude.{◌≡◌, ℕ, zero, suc, ◌+◌, ◌-◌, ◌*◌, ◌<◌, ◌≤◌, Bool, true, false, cond, ◌&&◌, ◌⊎◌, List, [], ◌∷◌, ◌++◌, length, take, drop, ◌==◌, ◌≢◌, nat_le, slice_index_or, refl}
-use Rattle.std.proofs.Common.{arith, sym, ap, ap₂, subst, ◌∙◌, inl, inr, ⊎_elim, lit≤}
+use Rattle.std.specs.Prelude.{◌≡◌, ℕ, ◌+◌, ◌-◌, ◌*◌, ◌<◌, ◌≤◌, Bool, true, false, ◌&&◌, List, [], ◌∷◌, ◌++◌, length, take, drop, ◌==◌, ◌≢◌, nat_le, slice_index_or, refl}
+use Rattle.std.proofs.Common.{arith, sym, ap, ap₂, ◌∙◌, ⊎_elim}
 use Rattle.std.proofs.lemmas.List.{append_assoc, length-append, take-append-drop, nil_from_length}
 use Rattle.std.proofs.lemmas.Bool.{cases_Bool, cond-true, cond-false, leb-true, eq-eqb, eqb-true, and_parts, and_from}
 use Rattle.model.specs.declared.EventKind.{EventKind}
 use Rattle.model.specs.declared.EventKind.TheVariants.{StreamStart, StreamEnd, DocumentStart, DocumentEnd, Alias, Scalar, SequenceStart, SequenceEnd, MappingStart, MappingEnd}
 use Rattle.model.specs.declared.Cause.TheVariants.{NotALine}
 use Rattle.model.specs.Events.{Ev, Row, table, within, zero_free, allowed}
-use Rattle.model.specs.Reading.{Front, nothing, event, fault, Format}
-use Rattle.lines.specs.Line.{word, escape, marked, optional, value_part, digits, line_of, untext, past, begins, part_text, part_rest, guess, starts_with, is_line_of, front_for, line_front, Refuses, longest, Short}
+use Rattle.model.specs.Reading.{nothing, event, fault, Format}
+use Rattle.lines.specs.Line.{word, escape, optional, value_part, digits, line_of, begins, part_text, part_rest, guess, starts_with, is_line_of, front_for, line_front, Refuses, Short}
 use Rattle.lines.specs.Texts.{untext_escape, past_escape, length_escape}
 
 -- beginning with some bytes

@@ -1,8 +1,5 @@
 -- What reading the parts of a line finds.
-use Rattle.std.specs.Prelude.{◌≡◌, ℕ, ◌<◌, ◌≤◌, Bool, true, false, List, length, take, Some, None, Option}
-use Rattle.model.specs.declared.Cause.TheVariants.{NotALine}
-use Rattle.model.specs.Events.{Ev, allowed}
-use Rattle.model.specs.Reading.{Front, event, fault}
+use Rattle.std.specs.Prelude.{◌≡◌, ℕ, ◌<◌, ◌≤◌, List, length, take, Some, None, Option}
 use Rattle.lines.specs.declared.part.Part.{Part}
 
 -- the text is in the buffer, and these bytes follow it

@@ -1,7 +1,7 @@
 -- What a line reader means.
 use Rattle.std.specs.Prelude.{◌≡◌, ℕ, cond, List, Some, None, Option}
 use Rattle.model.specs.Events.{Ev}
-use Rattle.model.specs.Reading.{Coming, reading, read_all, events_of, fault_number, write_all}
+use Rattle.model.specs.Reading.{reading, read_all, events_of, fault_number, write_all}
 use Rattle.model.proofs.Readings.{coming_allowed}
 use Rattle.yaml.specs.Flow.{Flow, Sound}
 use Rattle.lines.specs.declared.reader.LineReader.{LineReader}

@@ -1,7 +1,6 @@
 -- Lines of some events, as they compute.
-use Rattle.std.specs.Prelude.{◌≡◌, List, [], ◌∷◌, ◌++◌, codes, refl}
+use Rattle.std.specs.Prelude.{◌≡◌, [], ◌∷◌, ◌++◌, codes, refl}
 use Rattle.model.specs.declared.EventKind.TheVariants.{Scalar, Alias, DocumentStart}
-use Rattle.model.specs.Events.{Ev}
 use Rattle.model.specs.Reading.{event, fault}
 use Rattle.model.specs.declared.Cause.TheVariants.{NotALine}
 use Rattle.lines.specs.Line.{escape_byte, line_of, guess, untext, past, line_front}

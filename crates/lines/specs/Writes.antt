@@ -1,8 +1,7 @@
 -- What a line writer means.
-use Rattle.std.specs.Prelude.{◌≡◌, ℕ, suc, ◌+◌, ◌-◌, ◌≤◌, true, List, [], ◌∷◌, ◌++◌, length, take, slice_set, refl}
-use Rattle.std.proofs.Common.{arith, sym, ap, ap₂, ◌∙◌}
+use Rattle.std.specs.Prelude.{◌≡◌, ℕ, ◌+◌, ◌-◌, ◌≤◌, List, [], ◌∷◌, ◌++◌, length, take, slice_set, refl}
+use Rattle.std.proofs.Common.{arith, ap, ◌∙◌}
 use Rattle.std.proofs.lemmas.List.{length-append}
-use Rattle.model.specs.Events.{Ev, allowed}
 use Rattle.model.specs.Reading.{read_all, events_of, write_all, fault_number}
 use Rattle.yaml.specs.Puts.{puts}
 use Rattle.yaml.proofs.Puts.{length_puts}

@@ -155,7 +155,7 @@ mod escapes {
             taken(&mut writer, &event(EventKind::Alias, 0, 0, b"", b"")),
             31
         );
-        assert!(rt; writer.finish() == b"=VAL 1 1 :a\\20b\\5C~\\7F\\FF\\0A\n");
+        assert!(rt; writer.finish() == b"=VAL 1 1 :a\\20b\\5C~\\7F\\FF\\0A\n".as_slice());
     }
 
     #[test]

@@ -1,30 +1,28 @@
 -- What composing takes in, with space for what comes of it, is accepted.
-use Rattle.std.proofs.Common.{◌≡◌, ℕ, zero, suc, ◌+◌, ◌-◌, ◌%◌, ◌<◌, ◌≤◌, Bool, true, false, cond, not, ◌&&◌, eqb, ltb, leb, List, [], ◌∷◌, ◌++◌, map, length, Some, None, Ok, Err, Option, Result, sym, refl, ap, ◌∙◌, subst, ap₂, arith}
+use Rattle.std.proofs.Common.{◌≡◌, ℕ, suc, ◌+◌, ◌%◌, ◌<◌, ◌≤◌, Bool, true, false, cond, not, eqb, ltb, leb, List, [], ◌∷◌, ◌++◌, length, Some, Ok, Err, sym, refl, ap, ◌∙◌, subst, arith}
 use Rattle.std.proofs.lemmas.List.{length-append}
 use Rattle.std.proofs.lemmas.Bool.{lt-ltb, le-leb, eq-eqb, cond-true, and_from}
 use Rattle.model.specs.declared.EventKind.{EventKind}
-use Rattle.model.specs.declared.EventKind.TheVariants.{StreamStart, StreamEnd, DocumentStart, DocumentEnd, Alias, Scalar as ScalarEvent, SequenceStart, SequenceEnd, MappingStart, MappingEnd}
+use Rattle.model.specs.declared.EventKind.TheVariants.{Alias, Scalar as ScalarEvent, SequenceStart, SequenceEnd, MappingStart, MappingEnd}
 use Rattle.model.specs.declared.NodeKind.{NodeKind}
 use Rattle.model.specs.declared.NodeKind.TheVariants.{Scalar, Sequence, Mapping}
 use Rattle.model.specs.declared.Mark.{Mark}
-use Rattle.model.specs.Events.{Ev, allowed}
+use Rattle.model.specs.Events.{allowed}
 use Rattle.model.specs.Graph.{Vertex, nth, numbered}
 use Rattle.model.specs.Reading.{Marked}
 use Rattle.document.specs.declared.node.Node.{Node}
-use Rattle.document.specs.Books.{kind_of, vertex_of, graph_of}
+use Rattle.document.specs.Books.{kind_of, vertex_of}
 use Rattle.serial.specs.Walk.{is_collection}
 use Rattle.serial.specs.Serialize.{start_kind, end_kind}
 use Rattle.serial.specs.Compose.{Frame as OpenOne}
 use Rattle.serial.specs.Compose.{frame, Composed, Takes, Complete, fresh, resolved, look_of, bare_vertex, noted, TakesIn, alias, scalar, start, end}
-use Rattle.serial.specs.Stocks.{all_links, text_of, all_text, waiting, stock}
+use Rattle.serial.specs.Stocks.{all_links, all_text, waiting, stock}
 use Rattle.serial.proofs.Unique.{one_way}
 use Rattle.composer.specs.declared.anchor.Anchor.{Anchor}
 use Rattle.composer.specs.declared.frames.Frame.{Frame}
-use Rattle.composer.specs.declared.refusal.Refusal.{Refusal}
-use Rattle.composer.specs.declared.refusal.Refusal.TheVariants.{NotInTurn, NodesFull, TextFull, AnchorsFull, ChildrenFull, TooDeep}
-use Rattle.composer.specs.Names.{found, entry_of}
+use Rattle.composer.specs.declared.refusal.Refusal.TheVariants.{NotInTurn}
 use Rattle.composer.specs.State.{St, Spaces}
-use Rattle.composer.specs.Steps.{next, takes_child, ends_sequence, ends_mapping, in_turn, adding_to, alias_of, value_for, noding, naming_by, registering, adding_newest, naming_adding, node_step, is_mapping, with_frame, opened, opening, start_step, with_child, closing, closed_by, taken, taking}
+use Rattle.composer.specs.Steps.{next, takes_child, ends_sequence, ends_mapping, in_turn, adding_to, alias_of, value_for, noding, naming_by, registering, adding_newest, naming_adding, node_step, is_mapping, with_frame, opened, opening, start_step, closing, closed_by, taken, taking}
 use Rattle.loader.specs.Loading.{is_document_end}
 use Rattle.loads.specs.Tidy.{root_of, last_of, open_ones_of, names_of, composed_of, AllOpen, Tidy, collection_kind}
 use Rattle.loads.specs.Room.{Fits, Accepted, StepAccepted}

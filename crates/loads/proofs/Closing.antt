@@ -1,26 +1,23 @@
 -- The end of a collection: its children become its links.
-use Rattle.std.proofs.Common.{◌≡◌, ℕ, zero, suc, ◌+◌, ◌-◌, ◌%◌, ◌<◌, ◌≤◌, Bool, true, false, ◌⊎◌, List, [], ◌∷◌, ◌++◌, map, length, take, drop, set, Some, None, sum_by, Option, sym, refl, ap, ◌∙◌, subst, ap₂, inl, inr, arith}
+use Rattle.std.proofs.Common.{◌≡◌, ℕ, zero, suc, ◌-◌, ◌%◌, ◌≤◌, Bool, true, false, List, [], ◌∷◌, ◌++◌, map, length, take, set, Some, sym, refl, ap, ◌∙◌, subst, ap₂, arith}
 use Rattle.std.specs.List.{AllByRecursion as All}
 use Rattle.std.proofs.lemmas.List.{append-nil, length-append, length-set, map-set, drop_at, take_all}
 use Rattle.std.proofs.ByRecursion.{All-set, All-weaker}
-use Rattle.std.proofs.lemmas.Bool.{cases_eq}
-use Rattle.model.specs.declared.NodeKind.{NodeKind}
-use Rattle.model.specs.declared.NodeKind.TheVariants.{Scalar, Sequence, Mapping}
 use Rattle.model.specs.declared.Mark.{Mark}
 use Rattle.model.specs.Events.{Ev}
 use Rattle.model.specs.Graph.{Vertex, nth, numbered}
 use Rattle.document.specs.declared.node.Node.{Node}
 use Rattle.document.specs.Questions.{part, link_count, text_length}
-use Rattle.document.specs.Books.{kind_of, look_of, vertex_of, graph_of}
+use Rattle.document.specs.Books.{kind_of, vertex_of, graph_of}
 use Rattle.serial.specs.Walk.{is_collection}
 use Rattle.serial.specs.Serialize.{end_kind}
 use Rattle.serial.specs.Compose.{frame, Complete, TakesIn, end, closed}
-use Rattle.serial.proofs.Standing.{nth_set, nth_set_other}
+use Rattle.serial.proofs.Standing.{nth_set_other}
 use Rattle.serial.proofs.Composing.{closed_is}
 use Rattle.composer.specs.declared.frames.Frame.{Frame}
 use Rattle.composer.specs.State.{St}
-use Rattle.composer.specs.Steps.{kind_number, linked, linked_at, closed_by}
-use Rattle.loads.specs.Tidy.{root_of, last_of, before_last, open_ones_of, composed_of, Placed, OpenNode, AllOpen, Tidy, collection_kind}
+use Rattle.composer.specs.Steps.{linked, linked_at, closed_by}
+use Rattle.loads.specs.Tidy.{root_of, last_of, before_last, open_ones_of, composed_of, Placed, AllOpen, Tidy, collection_kind}
 use Rattle.loads.proofs.Making.{open_higher}
 use Rattle.loads.proofs.Parts.{kind_back, graph_grow, placed_grow, sum_set, last_length}
 

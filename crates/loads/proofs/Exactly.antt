@@ -1,26 +1,21 @@
 -- A document is loaded exactly where its events compose, with space all the way.
-use Rattle.std.proofs.Common.{◌≡◌, ℕ, zero, suc, Bool, true, false, cond, List, [], ◌∷◌, ◌++◌, map, Some, None, Ok, Err, Option, sym, refl, ap, ◌∙◌, subst, arith}
-use Rattle.std.proofs.lemmas.List.{append_assoc, append-nil, map-append}
+use Rattle.std.proofs.Common.{◌≡◌, ℕ, true, false, cond, List, [], ◌∷◌, ◌++◌, map, Some, Option, sym, refl, ap, ◌∙◌, subst, arith}
+use Rattle.std.proofs.lemmas.List.{append_assoc, map-append}
 use Rattle.std.proofs.lemmas.Bool.{and_parts}
 use Rattle.model.specs.declared.Fault.{Fault}
-use Rattle.model.specs.declared.EventKind.{EventKind}
-use Rattle.model.specs.declared.NodeKind.{NodeKind}
-use Rattle.model.specs.declared.NodeKind.TheVariants.{Scalar, Sequence, Mapping}
 use Rattle.model.specs.Events.{Ev, allowed, all_allowed}
 use Rattle.model.specs.Reading.{Marked, bare}
 use Rattle.document.specs.declared.node.Node.{Node}
-use Rattle.serial.specs.Compose.{Frame as OpenOne}
-use Rattle.serial.specs.Compose.{frame, Composed, TakesIn, alias, scalar, start as starting, end as ending, TakesAll, beginning, Composes}
+use Rattle.serial.specs.Compose.{frame, Composed, TakesIn, alias, scalar, start as starting, end as ending, TakesAll, beginning}
 use Rattle.serial.proofs.Unique.{takes_append}
 use Rattle.composer.specs.declared.frames.Frame.{Frame}
 use Rattle.composer.specs.State.{St, blank, Spaces}
-use Rattle.composer.specs.Steps.{ends_document, taking}
-use Rattle.loader.specs.declared.answer.Loaded.{Loaded}
-use Rattle.loader.specs.declared.answer.Answer.TheVariants.{Loaded as LoadedAnswer, Refused}
+use Rattle.composer.specs.Steps.{ends_document}
+use Rattle.loader.specs.declared.answer.Answer.TheVariants.{Refused}
 use Rattle.loader.specs.Loading.{is_document_end, flowing, complete, counted, missing, stepped, running}
-use Rattle.loads.specs.Tidy.{root_of, open_ones_of, composed_of, Tidy, AllOpen}
-use Rattle.loads.specs.Runs.{Went, graph_in}
-use Rattle.loads.specs.Room.{Fits, TakesWithin, Within, Loadable, LoadableFront, ExactlyLoaded, LoadedExactly, EventsFit, LoadedAs, ComposedLoads, StopsWithin}
+use Rattle.loads.specs.Tidy.{root_of, open_ones_of, composed_of, Tidy}
+use Rattle.loads.specs.Runs.{Went}
+use Rattle.loads.specs.Room.{TakesWithin, Within, LoadedExactly, EventsFit, ComposedLoads, StopsWithin}
 use Rattle.loads.proofs.Steps.{step_composes, blank_tidy}
 use Rattle.loads.proofs.Accepting.{step_accepted, no_end_start, no_end_end}
 use Rattle.loads.proofs.Keeping.{step_within, blank_within, within_fits}

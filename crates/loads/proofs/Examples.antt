@@ -1,5 +1,5 @@
 -- The examples compute.
-use Rattle.std.proofs.Common.{◌≡◌, refl}
+use Rattle.std.proofs.Common.{refl}
 use Rattle.loader.specs.Loading.{running}
 use Rattle.loads.specs.Examples.{SmallExamples, DeepExamples}
 

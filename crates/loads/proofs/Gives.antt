@@ -1,10 +1,9 @@
 -- What the loader's code gives.
-use Rattle.std.proofs.Common.{◌≡◌, ℕ, ◌-◌, List, ◌++◌, length, replicate, sym, refl, ap, ◌∙◌, subst}
+use Rattle.std.proofs.Common.{ℕ, ◌-◌, List, ◌++◌, length, replicate, sym, subst}
 use Rattle.document.specs.declared.node.Node.{Node}
 use Rattle.document.specs.Empty.{empty_node}
-use Rattle.document.specs.Check.{Handed, handed}
+use Rattle.document.specs.Check.{handed}
 use Rattle.tables.specs.Stacks.{room_of}
-use Rattle.composer.specs.State.{St}
 use Rattle.composer.specs.Holding.{lengths_of}
 use Rattle.loader.specs.Loading.{Outcome, loading}
 use Rattle.loads.specs.Standing.{Stands}

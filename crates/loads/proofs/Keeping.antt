@@ -1,5 +1,5 @@
 -- Accepted steps keep within the space.
-use Rattle.std.proofs.Common.{◌≡◌, ℕ, zero, suc, ◌+◌, ◌-◌, ◌<◌, ◌≤◌, Bool, true, false, cond, ltb, leb, List, [], ◌∷◌, ◌++◌, length, take, drop, set, Some, None, Ok, Err, Option, Result, sym, refl, ap, ◌∙◌, subst, arith}
+use Rattle.std.proofs.Common.{◌≡◌, ℕ, ◌+◌, ◌-◌, ltb, leb, List, [], ◌∷◌, ◌++◌, length, drop, Some, None, Ok, Option, refl, ap, subst, arith}
 use Rattle.std.proofs.lemmas.List.{length-append, length-set, length-take, length-drop}
 use Rattle.std.proofs.lemmas.Bool.{ltb-true, leb-true}
 use Rattle.model.specs.declared.EventKind.{EventKind}
@@ -12,15 +12,14 @@ use Rattle.model.specs.Reading.{Marked}
 use Rattle.document.specs.declared.node.Node.{Node}
 use Rattle.serial.specs.Compose.{resolved}
 use Rattle.composer.specs.declared.frames.Frame.{Frame}
-use Rattle.composer.specs.declared.refusal.Refusal.{Refusal}
 use Rattle.composer.specs.declared.refusal.Refusal.TheVariants.{NotInTurn, NodesFull, TextFull, AnchorsFull, ChildrenFull, TooDeep}
 use Rattle.composer.specs.Names.{found, entry_of}
 use Rattle.composer.specs.State.{St, blank, Spaces}
-use Rattle.composer.specs.Steps.{next, in_turn, adding_to, alias_of, value_for, node_from, noding, naming_by, registering, adding_newest, naming_adding, node_step, opening, start_step, with_child, linked_at, closing, closed_by, taken, taking}
+use Rattle.composer.specs.Steps.{in_turn, adding_to, alias_of, value_for, node_from, noding, naming_by, registering, adding_newest, naming_adding, node_step, opening, start_step, with_child, linked_at, closing, closed_by, taken}
 use Rattle.loads.specs.Tidy.{composed_of, Tidy}
 use Rattle.loads.specs.Room.{Fits, Within, StepWithin}
 use Rattle.loads.proofs.Ways.{ok_if, ok_next}
-use Rattle.loads.proofs.Stepping.{makes, noding_ok, naming_ok, adding_ok, opening_ok}
+use Rattle.loads.proofs.Stepping.{noding_ok, naming_ok, adding_ok, opening_ok}
 use Rattle.loads.proofs.Sizes.{sizes, root_few}
 
 within_noding : (sp : Spaces) (k : NodeKind) (m : Marked) (s t : St) → Within sp s → noding sp k m s ≡ Ok t → Within sp t

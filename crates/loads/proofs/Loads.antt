@@ -1,5 +1,5 @@
 -- One load, whole.
-use Rattle.std.proofs.Common.{◌≡◌, ℕ, ◌≤◌, Bool, true, false, cond, ◌⊎◌, List, [], ◌∷◌, ◌++◌, map, Some, None, Option, sym, refl, ap, ◌∙◌, subst, inl, inr, arith}
+use Rattle.std.proofs.Common.{◌≡◌, ℕ, true, cond, List, [], ◌∷◌, ◌++◌, map, Some, Option, sym, refl, ap, ◌∙◌, subst, inl, inr, arith}
 use Rattle.std.proofs.lemmas.Bool.{and_parts, cases_Bool}
 use Rattle.model.specs.declared.EventKind.{EventKind}
 use Rattle.model.specs.declared.EventKind.TheVariants.{StreamStart, StreamEnd, DocumentStart, DocumentEnd, Alias, Scalar, SequenceStart, SequenceEnd, MappingStart, MappingEnd}
@@ -15,12 +15,12 @@ use Rattle.loader.specs.declared.answer.Loaded.{Loaded}
 use Rattle.loader.specs.declared.answer.Answer.TheVariants.{Loaded as LoadedAnswer}
 use Rattle.loader.specs.declared.answer.Phase.{Phase}
 use Rattle.loader.specs.declared.answer.Phase.TheVariants.{Fresh, Between, Ended, Spoilt}
-use Rattle.loader.specs.Loading.{Outcome, flowing, refused, counted, begun, between, is_stream_start, fresh, running, loading}
+use Rattle.loader.specs.Loading.{flowing, refused, counted, begun, between, is_stream_start, fresh, running}
 use Rattle.composer.specs.declared.refusal.Refusal.TheVariants.{NotInTurn}
 use Rattle.loads.specs.Tidy.{composed_of}
 use Rattle.loads.specs.Runs.{graph_in}
 use Rattle.loads.specs.Standing.{Limited}
-use Rattle.loads.specs.Loads.{Opens, GivenDocument, LoadGives, RunsNext, LoadRuns}
+use Rattle.loads.specs.Loads.{Opens, GivenDocument, LoadGives, LoadRuns}
 use Rattle.loads.proofs.Running.{loaded_ran, whole_open}
 use Rattle.loads.proofs.Exactly.{front_allowed}
 use Rattle.loads.proofs.Standing.{went_left, blank_left, stands}

@@ -1,13 +1,11 @@
 -- What each part of a step makes of the tables, and what they then stand for.
-use Rattle.std.proofs.Common.{◌≡◌, ℕ, zero, suc, ◌+◌, ◌-◌, ◌<◌, ◌≤◌, Bool, true, false, List, [], ◌∷◌, ◌++◌, map, length, take, drop, set, Some, None, sum_by, Option, sym, refl, ap, ◌∙◌, subst, ap₂, arith}
-use Rattle.std.specs.List.{AllByRecursion as All}
-use Rattle.std.proofs.lemmas.List.{append-nil, length-append, length-map, map_push, take_all, drop_all, length-take}
+use Rattle.std.proofs.Common.{◌≡◌, ℕ, ◌-◌, ◌≤◌, Bool, true, List, [], ◌∷◌, ◌++◌, length, take, Some, None, sym, refl, ap, ◌∙◌, subst, ap₂, arith}
+use Rattle.std.proofs.lemmas.List.{append-nil, length-append, map_push, take_all, drop_all}
 use Rattle.std.proofs.ByRecursion.{All-push, All-weaker}
 use Rattle.std.proofs.lemmas.List.Sums.{sum_by_push}
 use Rattle.model.specs.declared.NodeKind.{NodeKind}
-use Rattle.model.specs.declared.NodeKind.TheVariants.{Scalar, Sequence, Mapping}
 use Rattle.model.specs.declared.Mark.{Mark}
-use Rattle.model.specs.Graph.{Vertex, nth}
+use Rattle.model.specs.Graph.{nth}
 use Rattle.document.specs.declared.node.Node.{Node}
 use Rattle.document.specs.Questions.{link_count, text_length}
 use Rattle.document.specs.Books.{vertex_of, graph_of}
@@ -18,8 +16,8 @@ use Rattle.composer.specs.declared.anchor.Anchor.{Anchor}
 use Rattle.composer.specs.declared.frames.Frame.{Frame}
 use Rattle.composer.specs.Names.{found, entry_of}
 use Rattle.composer.specs.State.{St}
-use Rattle.composer.specs.Steps.{takes_child, one_more, value_for, node_from, with_node, with_anchor, kind_number, opened, with_frame}
-use Rattle.loads.specs.Tidy.{root_of, last_of, before_last, open_ones_of, names_of, composed_of, Placed, OpenNode, AllOpen, Tidy, collection_kind}
+use Rattle.composer.specs.Steps.{takes_child, one_more, value_for, node_from, with_node, kind_number, opened, with_frame}
+use Rattle.loads.specs.Tidy.{root_of, last_of, before_last, open_ones_of, names_of, Placed, AllOpen, Tidy, collection_kind}
 use Rattle.loads.proofs.Parts.{new_look, graph_grow, placed_grow, new_vertex, new_placed, last_push, before_push}
 use Rattle.loads.proofs.Names.{name_back, names_push, found_names, found_known}
 

@@ -1,5 +1,5 @@
 -- Marks are kept.
-use Rattle.std.proofs.Common.{◌≡◌, ℕ, zero, suc, ◌+◌, ◌-◌, ◌%◌, ◌≤◌, Bool, true, false, List, [], ◌∷◌, ◌++◌, map, length, set, Some, None, Ok, Err, Option, sym, refl, ap, ◌∙◌, subst, ap₂, arith}
+use Rattle.std.proofs.Common.{◌≡◌, ℕ, zero, suc, ◌-◌, Bool, true, false, List, [], ◌∷◌, map, length, set, Some, None, Ok, Option, sym, refl, ap, ◌∙◌, subst, ap₂, arith}
 use Rattle.std.proofs.lemmas.List.{length-append, length-map, map_push}
 use Rattle.std.proofs.lemmas.Bool.{and_parts}
 use Rattle.model.specs.declared.EventKind.{EventKind}
@@ -11,19 +11,18 @@ use Rattle.model.specs.Events.{allowed, all_allowed}
 use Rattle.model.specs.Graph.{nth}
 use Rattle.model.specs.Reading.{Marked, bare}
 use Rattle.document.specs.declared.node.Node.{Node}
-use Rattle.serial.specs.Serialize.{start_kind, end_kind}
 use Rattle.serial.specs.Compose.{resolved}
 use Rattle.composer.specs.declared.frames.Frame.{Frame}
 use Rattle.composer.specs.declared.refusal.Refusal.TheVariants.{NotInTurn}
 use Rattle.composer.specs.Names.{found}
 use Rattle.composer.specs.State.{St, blank, Spaces}
-use Rattle.composer.specs.Steps.{in_turn, alias_of, value_for, node_from, is_mapping, node_step, opened, opening, start_step, linked, closing, closed_by, taken, taking}
+use Rattle.composer.specs.Steps.{in_turn, alias_of, value_for, node_from, node_step, opening, start_step, linked, closing, closed_by, taken}
 use Rattle.loader.specs.declared.answer.Answer.TheVariants.{Loaded as LoadedAnswer}
-use Rattle.loader.specs.Loading.{is_document_end, counted}
-use Rattle.loads.specs.Tidy.{AllOpen, Tidy, collection_kind}
+use Rattle.loader.specs.Loading.{counted}
+use Rattle.loads.specs.Tidy.{AllOpen, Tidy}
 use Rattle.loads.specs.Runs.{Went, none, more}
-use Rattle.loads.specs.Marks.{Spans, no_spans, ends_at, with_span, opened_span, ended_span, spanned, spans_of, span_of, LoadedMarks}
-use Rattle.loads.proofs.Making.{added_frames, added_to}
+use Rattle.loads.specs.Marks.{Spans, ends_at, with_span, opened_span, ended_span, spanned, spans_of, span_of, LoadedMarks}
+use Rattle.loads.proofs.Making.{added_frames}
 use Rattle.loads.proofs.Ways.{ok_if, ok_next}
 use Rattle.loads.proofs.Stepping.{after_node, node_ok, adding_ok, opening_ok}
 use Rattle.loads.proofs.Closing.{linked_at_lem}

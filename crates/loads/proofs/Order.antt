@@ -1,15 +1,14 @@
 -- The walk that composing went along.
-use Rattle.std.proofs.Common.{◌≡◌, ℕ, zero, suc, ◌+◌, ◌<◌, ◌≤◌, Bool, true, false, cond, ◌||◌, eqb, ◌⊎◌, List, [], ◌∷◌, ◌++◌, length, set, Some, None, Option, sym, refl, ap, ◌∙◌, subst, ap₂, inl, inr, arith}
+use Rattle.std.proofs.Common.{◌≡◌, ℕ, zero, suc, ◌<◌, ◌≤◌, true, false, eqb, List, [], ◌∷◌, ◌++◌, length, set, Some, None, Option, sym, refl, ap, ◌∙◌, subst, ap₂, inl, inr, arith}
 use Rattle.std.proofs.lemmas.List.{append_assoc, append-nil, length-append, length-set}
-use Rattle.std.proofs.lemmas.Bool.{cases_Bool, cases_eq, eqb-true, eq-eqb, ne_eqb, or_left, or_right, or_from}
-use Rattle.model.specs.declared.NodeKind.{NodeKind}
-use Rattle.model.specs.declared.NodeKind.TheVariants.{Scalar, Sequence, Mapping}
+use Rattle.std.proofs.lemmas.Bool.{cases_Bool, cases_eq, eq-eqb, ne_eqb, or_left, or_right, or_from}
+use Rattle.model.specs.declared.NodeKind.TheVariants.{Scalar}
 use Rattle.model.specs.Events.{Ev}
 use Rattle.model.specs.Graph.{Vertex, nth, numbered}
-use Rattle.serial.specs.Walk.{Token, first, again, leave, Spot, spot, among, is_collection, Step, met, leaf, into, out, Steps, Walk}
-use Rattle.serial.specs.Walks.{SoundGraph, LedTo}
+use Rattle.serial.specs.Walk.{Token, first, again, leave, Spot, spot, among, is_collection, met, leaf, into, out, Steps}
+use Rattle.serial.specs.Walks.{SoundGraph}
 use Rattle.serial.specs.Serialize.{same_bytes}
-use Rattle.serial.specs.Compose.{Frame, frame, Composed, named, noted, bare_vertex, look_of, closed, after_alias, after_scalar, after_start, after_end, TakesIn, alias, scalar, start, end, TakesAll, beginning, Composes}
+use Rattle.serial.specs.Compose.{Frame, frame, Composed, named, noted, bare_vertex, look_of, closed, TakesIn, alias, scalar, start, end, TakesAll, beginning}
 use Rattle.serial.specs.RoundTrip.{Sound}
 use Rattle.serial.proofs.Standing.{nth_left, nth_push, nth_set}
 use Rattle.serial.proofs.Composing.{closed_is, numbered_set_other, one_vertex}

@@ -1,18 +1,18 @@
 -- Parts of tables as the tables grow, and what a node stands for in them.
-use Rattle.std.proofs.Common.{◌≡◌, ℕ, zero, suc, ◌+◌, ◌-◌, ◌<◌, ◌≤◌, List, [], ◌∷◌, ◌++◌, map, length, take, drop, set, Some, None, sum_by, Option, sym, refl, ap, ◌∙◌, subst, ap₂, arith}
+use Rattle.std.proofs.Common.{◌≡◌, ℕ, zero, suc, ◌+◌, ◌-◌, ◌≤◌, List, [], ◌∷◌, ◌++◌, length, take, drop, set, Some, sum_by, sym, refl, ap, ◌∙◌, ap₂, arith}
 use Rattle.std.specs.List.{AllByRecursion as All}
-use Rattle.std.proofs.lemmas.List.{append_assoc, append-nil, length-append, length-drop, length_push, drop-append-le, take-append-le, drop_at, take_at, take_all}
+use Rattle.std.proofs.lemmas.List.{append_assoc, length-append, length-drop, length_push, drop-append-le, take-append-le, drop_at, take_at, take_all}
 use Rattle.std.proofs.lemmas.List.Sums.{sum_by-cons}
 use Rattle.model.specs.declared.NodeKind.{NodeKind}
 use Rattle.model.specs.declared.NodeKind.TheVariants.{Scalar, Sequence, Mapping}
 use Rattle.model.specs.declared.Mark.{Mark}
-use Rattle.model.specs.Graph.{Look, Vertex, nth, numbered}
+use Rattle.model.specs.Graph.{Look, nth}
 use Rattle.document.specs.declared.node.Node.{Node}
 use Rattle.document.specs.Questions.{part}
-use Rattle.document.specs.Books.{kind_of, look_of, vertex_of, graph_of}
+use Rattle.document.specs.Books.{kind_of, vertex_of, graph_of}
 use Rattle.serial.specs.Compose.{bare_vertex}
-use Rattle.composer.specs.Steps.{kind_number, value_for, value_place, node_from, linked}
-use Rattle.loads.specs.Tidy.{Placed, root_of, last_of, before_last}
+use Rattle.composer.specs.Steps.{kind_number, value_for, value_place, node_from}
+use Rattle.loads.specs.Tidy.{Placed, last_of, before_last}
 
 pub part_grow : (xs ys : List ℕ) (place n : ℕ) → place + n ≤ length xs → part (xs ++ ys) place n ≡ part xs place n
 part_grow xs ys place n h =

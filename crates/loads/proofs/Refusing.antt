@@ -13,25 +13,23 @@ use Rattle.model.specs.Reading.{Marked, bare}
 use Rattle.document.specs.declared.node.Node.{Node}
 use Rattle.serial.specs.Walk.{is_collection}
 use Rattle.serial.specs.Serialize.{start_kind}
-use Rattle.serial.specs.Compose.{resolved, look_of, named}
-use Rattle.serial.specs.Stocks.{text_of}
-use Rattle.composer.specs.declared.anchor.Anchor.{Anchor}
+use Rattle.serial.specs.Compose.{resolved, named}
 use Rattle.composer.specs.declared.frames.Frame.{Frame}
 use Rattle.composer.specs.declared.refusal.Refusal.{Refusal}
 use Rattle.composer.specs.declared.refusal.Refusal.TheVariants.{NotInTurn, UnknownAlias, NodesFull, TextFull, AnchorAgain, AnchorsFull, ChildrenFull, TooDeep}
 use Rattle.composer.specs.Names.{found, entry_of}
 use Rattle.composer.specs.State.{St, blank, Spaces}
-use Rattle.composer.specs.Steps.{next, takes_child, in_turn, with_child, adding_to, alias_of, value_for, node_from, noding, start_of, with_anchor, naming_by, registering, adding_newest, naming_adding, node_step, is_mapping, with_frame, opened, opening, start_step, closing, taken, taking}
-use Rattle.loader.specs.declared.answer.Answer.TheVariants.{Loaded as LoadedAnswer, Refused}
-use Rattle.loader.specs.Loading.{is_document_end, missing, complete, flowing, stepped, running}
-use Rattle.loads.specs.Tidy.{names_of, composed_of, Tidy}
+use Rattle.composer.specs.Steps.{next, in_turn, with_child, adding_to, alias_of, value_for, node_from, noding, start_of, with_anchor, naming_by, registering, adding_newest, naming_adding, node_step, is_mapping, with_frame, opened, opening, start_step, closing, taken, taking}
+use Rattle.loader.specs.declared.answer.Answer.TheVariants.{Refused}
+use Rattle.loader.specs.Loading.{is_document_end, missing, flowing, stepped, running}
+use Rattle.loads.specs.Tidy.{composed_of, Tidy}
 use Rattle.loads.specs.Runs.{Went, none, more}
-use Rattle.loads.specs.Refusing.{TakesChild, InTurn, Gives, NamesNode, NodeSpace, NameSpace, ChildSpace, NoChildSpace, Why, not_in_turn, unknown_alias, alias_full, nodes_full, text_full, anchor_again, anchors_full, children_full, too_deep, ExactlyRefused, StepRefused, FirstRefused, CameShort, RunRefused}
-use Rattle.loads.proofs.Making.{named_as, NewName, added_frames, added_to}
+use Rattle.loads.specs.Refusing.{InTurn, Gives, NamesNode, NodeSpace, NameSpace, ChildSpace, NoChildSpace, Why, not_in_turn, unknown_alias, alias_full, nodes_full, text_full, anchor_again, anchors_full, children_full, too_deep, StepRefused, RunRefused}
+use Rattle.loads.proofs.Making.{named_as, NewName, added_frames}
 use Rattle.loads.proofs.Ways.{ok_if, ok_next}
-use Rattle.loads.proofs.Stepping.{makes, noding_ok, registering_ok, after_node, node_ok, value_told}
+use Rattle.loads.proofs.Stepping.{makes, noding_ok, registering_ok, node_ok, value_told}
 use Rattle.loads.proofs.Events.{no_value}
-use Rattle.loads.proofs.Accepting.{ChildRoom, NameRoom, NodeRoom, noding_back, registering_back, adding_back, node_back, added_length}
+use Rattle.loads.proofs.Accepting.{ChildRoom, NameRoom, noding_back, registering_back, node_back, added_length}
 use Rattle.loads.proofs.Turns.{turn_on, turn_off, child_off}
 use Rattle.loads.proofs.Steps.{step_composes, blank_tidy}
 

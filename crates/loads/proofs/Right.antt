@@ -1,24 +1,19 @@
 -- Every node that is made is right.
-use Rattle.std.proofs.Common.{◌≡◌, ℕ, zero, suc, ◌+◌, ◌-◌, ◌%◌, ◌<◌, ◌≤◌, Bool, true, false, cond, not, ◌&&◌, ◌||◌, eqb, ltb, leb, ◌≢◌, ◌⊎◌, List, [], ◌∷◌, ◌++◌, length, take, drop, set, Some, codes, sym, refl, ap, ◌∙◌, subst, ap₂, inl, inr, arith}
+use Rattle.std.proofs.Common.{◌≡◌, ℕ, ◌+◌, ◌%◌, ◌≤◌, Bool, true, false, cond, not, ◌&&◌, ◌||◌, eqb, leb, List, [], ◌∷◌, ◌++◌, length, codes, refl, ap, ◌∙◌, subst, inl, inr, arith}
 use Rattle.std.specs.List.{AllByRecursion as All}
-use Rattle.std.proofs.lemmas.List.{length-append, length-set, drop_at, take_all}
-use Rattle.std.proofs.ByRecursion.{All-push, All-set}
-use Rattle.std.proofs.lemmas.Bool.{leb-true, le-leb, eqb-true, eq-eqb, and_parts, and_from, or_left, or_right, not_from_false, cases_Bool, both_ways}
+use Rattle.std.proofs.lemmas.Bool.{leb-true, le-leb, and_parts, and_from, or_left, not_from_false, cases_Bool, both_ways}
 use Rattle.model.specs.declared.NodeKind.{NodeKind}
 use Rattle.model.specs.declared.NodeKind.TheVariants.{Scalar, Sequence, Mapping}
 use Rattle.model.specs.declared.Mark.{Mark}
 use Rattle.model.specs.Events.{Ev, table, zero_free, allowed}
-use Rattle.model.specs.Graph.{nth}
-use Rattle.model.specs.Reading.{Marked}
 use Rattle.document.specs.declared.node.Node.{Node}
-use Rattle.document.specs.Questions.{part, lies, every, kind_right, bang, tag_of, value_of, links_of, tag_right, value_right, names, links_right}
-use Rattle.document.proofs.Every.{every_push, every_weaker}
+use Rattle.document.specs.Questions.{lies, every, kind_right, bang, tag_of, links_of, tag_right, value_right, names, links_right}
+use Rattle.document.proofs.Every.{every_weaker}
 use Rattle.serial.specs.Serialize.{same_bytes, default_tag, start_kind}
 use Rattle.serial.specs.Compose.{resolved}
-use Rattle.serial.proofs.Standing.{same_bytes_lem, bytes_same}
 use Rattle.composer.specs.State.{St}
-use Rattle.composer.specs.Steps.{kind_number, value_for, node_from, linked}
-use Rattle.loads.specs.Tidy.{Placed, Tidy}
+use Rattle.composer.specs.Steps.{value_for, node_from}
+use Rattle.loads.specs.Tidy.{Placed}
 use Rattle.loads.proofs.Parts.{part_grow, part_at}
 use Rattle.loads.proofs.Events.{Kept, kept_within}
 

@@ -1,5 +1,5 @@
 -- Whole runs.
-use Rattle.std.proofs.Common.{◌≡◌, ℕ, Bool, true, false, cond, ◌⊎◌, List, [], ◌∷◌, ◌++◌, map, Some, None, Ok, Err, Option, Result, sym, refl, ap, ◌∙◌, subst, inl, inr, arith}
+use Rattle.std.proofs.Common.{◌≡◌, ℕ, true, cond, List, [], ◌∷◌, ◌++◌, map, Some, Ok, Err, Option, Result, sym, refl, ap, ◌∙◌, subst, inl, inr, arith}
 use Rattle.std.proofs.lemmas.List.{map-append}
 use Rattle.std.proofs.lemmas.Bool.{and_parts, and_from, cases_Bool}
 use Rattle.model.specs.declared.EventKind.{EventKind}
@@ -16,10 +16,10 @@ use Rattle.composer.specs.declared.refusal.Refusal.TheVariants.{NotInTurn}
 use Rattle.composer.specs.State.{St, blank, Spaces}
 use Rattle.composer.specs.Steps.{ends_document, in_turn, taken, taking}
 use Rattle.loader.specs.declared.answer.Loaded.{Loaded}
-use Rattle.loader.specs.declared.answer.Answer.TheVariants.{Loaded as LoadedAnswer, Refused}
-use Rattle.loader.specs.Loading.{Outcome, is_document_end, flowing, complete, refused, stepped, running, over}
-use Rattle.loads.specs.Tidy.{root_of, open_ones_of, composed_of, Tidy}
-use Rattle.loads.specs.Runs.{Went, none, more, graph_in, Ran, LoadedRan, RanLoaded, ComposedSo, WentComposes, Loads, LoadComposes}
+use Rattle.loader.specs.declared.answer.Answer.TheVariants.{Loaded as LoadedAnswer}
+use Rattle.loader.specs.Loading.{is_document_end, flowing, complete, stepped, running}
+use Rattle.loads.specs.Tidy.{root_of, open_ones_of, composed_of}
+use Rattle.loads.specs.Runs.{Went, none, more, graph_in, Ran, LoadedRan, RanLoaded, WentComposes, LoadComposes}
 use Rattle.loads.proofs.Ways.{ok_if}
 use Rattle.loads.proofs.Steps.{step_composes, blank_tidy}
 

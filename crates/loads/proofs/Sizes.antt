@@ -1,19 +1,19 @@
 -- How much the tables hold, and how much there is in what they stand for.
-use Rattle.std.proofs.Common.{◌≡◌, ℕ, zero, suc, ◌+◌, ◌-◌, ◌≤◌, List, [], ◌∷◌, ◌++◌, map, length, take, drop, sum_by, sym, refl, ap, ◌∙◌, subst, arith}
+use Rattle.std.proofs.Common.{◌≡◌, ℕ, suc, ◌+◌, ◌-◌, ◌≤◌, List, [], ◌∷◌, ◌++◌, length, drop, sum_by, refl, ap, ◌∙◌, arith}
 use Rattle.std.specs.List.{AllByRecursion as All}
-use Rattle.std.proofs.lemmas.List.{length-append, length-map, length-take, length-drop}
+use Rattle.std.proofs.lemmas.List.{length-map, length-take, length-drop}
 use Rattle.std.proofs.lemmas.List.Sums.{sum_by-cons}
 use Rattle.model.specs.Graph.{Look, Vertex}
 use Rattle.document.specs.declared.node.Node.{Node}
 use Rattle.document.specs.Questions.{part, link_count, text_length}
 use Rattle.document.specs.Books.{vertex_of, graph_of}
-use Rattle.serial.specs.Compose.{frame, bare_vertex}
+use Rattle.serial.specs.Compose.{bare_vertex}
 use Rattle.serial.specs.Stocks.{all_links, text_of, all_text, waiting, stock}
 use Rattle.composer.specs.declared.anchor.Anchor.{Anchor}
 use Rattle.composer.specs.declared.frames.Frame.{Frame}
 use Rattle.composer.specs.Names.{name_of}
 use Rattle.composer.specs.State.{St}
-use Rattle.loads.specs.Tidy.{root_of, last_of, before_last, open_ones_of, names_onto, names_of, composed_of, Placed, AllOpen, Tidy}
+use Rattle.loads.specs.Tidy.{root_of, before_last, open_ones_of, names_onto, composed_of, Placed, AllOpen, Tidy}
 use Rattle.loads.proofs.Parts.{last_length}
 
 part_length : (xs : List ℕ) (place n : ℕ) → place + n ≤ length xs → length (part xs place n) ≡ n

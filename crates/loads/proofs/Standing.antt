@@ -1,5 +1,5 @@
 -- What is loaded stands as a document.
-use Rattle.std.proofs.Common.{◌≡◌, ℕ, zero, suc, ◌+◌, ◌-◌, ◌%◌, ◌<◌, ◌≤◌, Bool, true, false, cond, not, ◌&&◌, ◌||◌, eqb, ltb, leb, List, [], ◌∷◌, ◌++◌, map, length, take, drop, set, Some, None, Ok, Err, Option, sym, refl, ap, ◌∙◌, subst, ap₂, arith}
+use Rattle.std.proofs.Common.{◌≡◌, ℕ, zero, suc, ◌+◌, ◌-◌, ◌%◌, ◌≤◌, Bool, true, false, leb, List, [], ◌∷◌, ◌++◌, map, length, take, drop, set, Some, None, Ok, Option, sym, refl, ap, ◌∙◌, subst, arith}
 use Rattle.std.specs.List.{AllByRecursion as All}
 use Rattle.std.proofs.lemmas.List.{length-append, length-set, drop_at, take_at, take_all}
 use Rattle.std.proofs.ByRecursion.{All-push, All-set}
@@ -12,8 +12,8 @@ use Rattle.model.specs.declared.Mark.{Mark}
 use Rattle.model.specs.Events.{allowed, all_allowed}
 use Rattle.model.specs.Reading.{Marked, bare}
 use Rattle.document.specs.declared.node.Node.{Node}
-use Rattle.document.specs.Questions.{part, every, names, links_of, link_total, text_total}
-use Rattle.document.specs.Check.{handed, nodes_in, links_in, text_in, AllFit}
+use Rattle.document.specs.Questions.{part, every, names, link_total, text_total}
+use Rattle.document.specs.Check.{handed, AllFit}
 use Rattle.document.specs.Books.{graph_of}
 use Rattle.document.proofs.Every.{every_push}
 use Rattle.serial.specs.Serialize.{start_kind, end_kind}
@@ -22,21 +22,21 @@ use Rattle.composer.specs.declared.frames.Frame.{Frame}
 use Rattle.composer.specs.declared.refusal.Refusal.TheVariants.{NotInTurn}
 use Rattle.composer.specs.Names.{found}
 use Rattle.composer.specs.State.{St, blank, Spaces}
-use Rattle.composer.specs.Steps.{in_turn, alias_of, kind_number, value_for, node_from, node_step, opening, start_step, linked, closing, closed_by, taken, taking}
-use Rattle.loader.specs.Loading.{kept, is_document_end, complete, flowing, counted}
+use Rattle.composer.specs.Steps.{in_turn, alias_of, kind_number, value_for, node_from, node_step, opening, start_step, linked, closing, closed_by, taken}
+use Rattle.loader.specs.Loading.{kept, counted}
 use Rattle.loader.specs.declared.answer.Answer.TheVariants.{Loaded as LoadedAnswer}
 use Rattle.loads.specs.Tidy.{last_of, before_last, Placed, Tidy, AllOpen, collection_kind}
-use Rattle.loads.specs.Runs.{Went, none, more, graph_in}
+use Rattle.loads.specs.Runs.{Went, none, more}
 use Rattle.loads.specs.Room.{Within}
 use Rattle.loads.specs.Standing.{Limited, Stands, LoadedStands}
 use Rattle.loads.proofs.Parts.{part_grow, graph_grow, placed_grow}
-use Rattle.loads.proofs.Making.{added_waiting, added_to}
+use Rattle.loads.proofs.Making.{added_waiting}
 use Rattle.loads.proofs.Ways.{ok_if, ok_next}
 use Rattle.loads.proofs.Stepping.{after_node, node_ok, adding_ok, opening_ok}
 use Rattle.loads.proofs.Closing.{nth_all, kids_count, closed_after}
 use Rattle.loads.proofs.Steps.{ends, ends_some, ends_fit, step_composes, blank_tidy}
 use Rattle.loads.proofs.Keeping.{step_within, blank_within}
-use Rattle.loads.proofs.Running.{loaded_ran, allowed_append}
+use Rattle.loads.proofs.Running.{loaded_ran}
 use Rattle.loads.proofs.Exactly.{front_allowed}
 use Rattle.loads.proofs.Right.{NodeRight, link_shape, Right, right_grow, all_grow, right_longer, new_right, all_right, names_grow}
 

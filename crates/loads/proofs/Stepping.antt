@@ -1,32 +1,27 @@
 -- Each step that is taken is a step of composing.
-use Rattle.std.proofs.Common.{◌≡◌, ℕ, zero, suc, ◌+◌, ◌-◌, ◌%◌, ◌<◌, ◌≤◌, Bool, true, false, cond, not, ◌&&◌, eqb, ltb, leb, ◌⊎◌, List, [], ◌∷◌, ◌++◌, map, length, take, drop, set, Some, None, Ok, Err, Option, Result, sym, refl, ap, ◌∙◌, subst, ap₂, inl, inr, arith}
+use Rattle.std.proofs.Common.{◌≡◌, ℕ, suc, ◌+◌, true, ltb, leb, List, [], ◌∷◌, ◌++◌, length, Some, None, Ok, Option, sym, refl, ap, ◌∙◌, subst, ap₂, arith}
 use Rattle.std.proofs.lemmas.List.{length-append, length-map}
-use Rattle.std.proofs.lemmas.Bool.{ltb-true, leb-true}
-use Rattle.model.specs.declared.EventKind.{EventKind}
-use Rattle.model.specs.declared.EventKind.TheVariants.{StreamStart, StreamEnd, DocumentStart, DocumentEnd, Alias, Scalar as ScalarEvent, SequenceStart, SequenceEnd, MappingStart, MappingEnd}
+use Rattle.model.specs.declared.EventKind.TheVariants.{Scalar as ScalarEvent}
 use Rattle.model.specs.declared.NodeKind.{NodeKind}
 use Rattle.model.specs.declared.NodeKind.TheVariants.{Scalar, Sequence, Mapping}
 use Rattle.model.specs.declared.Mark.{Mark}
-use Rattle.model.specs.Events.{Ev, allowed}
-use Rattle.model.specs.Graph.{Look, Vertex, nth, numbered}
+use Rattle.model.specs.Events.{Ev}
 use Rattle.model.specs.Reading.{Marked}
 use Rattle.document.specs.declared.node.Node.{Node}
 use Rattle.document.specs.Books.{vertex_of, graph_of}
 use Rattle.serial.specs.Walk.{is_collection}
-use Rattle.serial.specs.Serialize.{start_kind, end_kind}
+use Rattle.serial.specs.Serialize.{start_kind}
 use Rattle.serial.specs.Compose.{Frame as OpenOne}
-use Rattle.serial.specs.Compose.{frame, Composed, Takes, resolved, look_of, bare_vertex, noted, fresh, after_alias, after_scalar, after_start, after_end, TakesIn, alias, scalar, start, end}
+use Rattle.serial.specs.Compose.{frame, Takes, resolved, look_of, bare_vertex, noted, fresh, scalar, start}
 use Rattle.composer.specs.declared.frames.Frame.{Frame}
-use Rattle.composer.specs.declared.refusal.Refusal.{Refusal}
 use Rattle.composer.specs.declared.refusal.Refusal.TheVariants.{NodesFull, TextFull, AnchorsFull, ChildrenFull, TooDeep}
 use Rattle.composer.specs.Names.{found, entry_of}
 use Rattle.composer.specs.State.{St, Spaces}
-use Rattle.composer.specs.Steps
-use Rattle.composer.specs.Steps.{next, takes_child, adding_to, adding, alias_of, aliasing, value_for, node_from, with_node, noding_with, noding, with_anchor, naming_by, registering, adding_newest, naming_adding, node_step, is_mapping, with_frame, opened, opening, start_step, with_child, kind_number}
-use Rattle.loads.specs.Tidy.{root_of, open_ones_of, names_of, composed_of, AllOpen, Tidy, collection_kind}
+use Rattle.composer.specs.Steps.{takes_child, adding_to, value_for, node_from, with_node, noding, with_anchor, naming_by, registering, adding_newest, naming_adding, node_step, is_mapping, with_frame, opened, opening, start_step, with_child, kind_number}
+use Rattle.loads.specs.Tidy.{root_of, open_ones_of, names_of, composed_of, Tidy, collection_kind}
 use Rattle.loads.specs.Stepping.{TakenIn}
 use Rattle.loads.proofs.Parts.{new_look}
-use Rattle.loads.proofs.Making.{root_push, root_some, tidy_node, graph_node, named_anchors, named_as, NewName, tidy_named, names_named, fresh_named, added_frames, added_waiting, added_to, tidy_added, Received, received, tidy_opened, open_opened, open_push, open_added}
+use Rattle.loads.proofs.Making.{root_push, tidy_node, graph_node, named_anchors, named_as, NewName, tidy_named, names_named, fresh_named, added_frames, added_waiting, added_to, tidy_added, received, tidy_opened, open_opened, open_push, open_added}
 use Rattle.loads.proofs.Ways.{ok_if, ok_next}
 
 -- the parts

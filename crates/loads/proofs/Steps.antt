@@ -1,23 +1,21 @@
 -- Each event that is taken in is taken in by composing.
-use Rattle.std.proofs.Common.{◌≡◌, ℕ, zero, suc, ◌+◌, ◌%◌, ◌≤◌, Bool, true, false, cond, not, ◌&&◌, eqb, List, [], ◌∷◌, ◌++◌, length, Some, None, Ok, Err, Option, Result, sym, refl, ap, ◌∙◌, subst, arith}
+use Rattle.std.proofs.Common.{◌≡◌, ℕ, ◌%◌, ◌≤◌, Bool, true, false, eqb, List, [], ◌∷◌, ◌++◌, length, Some, None, Ok, Option, sym, refl, ap, ◌∙◌, arith}
 use Rattle.std.proofs.lemmas.Bool.{and_parts, eqb-true, not-true}
 use Rattle.model.specs.declared.EventKind.{EventKind}
 use Rattle.model.specs.declared.EventKind.TheVariants.{StreamStart, StreamEnd, DocumentStart, DocumentEnd, Alias, Scalar as ScalarEvent, SequenceStart, SequenceEnd, MappingStart, MappingEnd}
-use Rattle.model.specs.declared.NodeKind.TheVariants.{Scalar, Sequence, Mapping}
-use Rattle.model.specs.declared.Mark.{Mark}
+use Rattle.model.specs.declared.NodeKind.TheVariants.{Sequence, Mapping}
 use Rattle.model.specs.Events.{allowed}
 use Rattle.model.specs.Reading.{Marked}
 use Rattle.document.specs.declared.node.Node.{Node}
-use Rattle.serial.specs.Compose.{frame, TakesIn, alias, beginning}
+use Rattle.serial.specs.Compose.{frame, alias, beginning}
 use Rattle.serial.specs.Serialize.{end_kind}
 use Rattle.composer.specs.declared.frames.Frame.{Frame}
-use Rattle.composer.specs.declared.refusal.Refusal.{Refusal}
 use Rattle.composer.specs.declared.refusal.Refusal.TheVariants.{NotInTurn}
 use Rattle.composer.specs.Names.{found}
 use Rattle.composer.specs.State.{St, blank, Spaces}
-use Rattle.composer.specs.Steps.{takes_child, ends_sequence, ends_mapping, in_turn, alias_of, closing, closed_by, taken, taking}
+use Rattle.composer.specs.Steps.{takes_child, ends_sequence, ends_mapping, in_turn, alias_of, closing, closed_by, taken}
 use Rattle.loads.specs.Tidy.{root_of, open_ones_of, composed_of, Tidy, collection_kind}
-use Rattle.loads.proofs.Making.{added_frames, added_waiting, added_to, tidy_added, received}
+use Rattle.loads.proofs.Making.{added_frames, added_waiting, tidy_added, received}
 use Rattle.loads.proofs.Ways.{ok_if}
 use Rattle.loads.specs.Stepping.{TakenIn, StepComposes}
 use Rattle.loader.specs.Loading.{is_document_end}

@@ -1,20 +1,18 @@
 -- The loader's turns are composing's.
-use Rattle.std.proofs.Common.{◌≡◌, ℕ, zero, suc, Bool, true, false, cond, List, [], ◌∷◌, ◌++◌, Ok, Err, sym, refl, ap, ◌∙◌, subst, arith}
+use Rattle.std.proofs.Common.{◌≡◌, ℕ, Bool, true, false, List, [], ◌∷◌, Ok, refl, ap, ◌∙◌, subst, arith}
 use Rattle.model.specs.declared.EventKind.{EventKind}
 use Rattle.model.specs.declared.EventKind.TheVariants.{StreamStart, StreamEnd, DocumentStart, DocumentEnd, Alias, Scalar as ScalarEvent, SequenceStart, SequenceEnd, MappingStart, MappingEnd}
 use Rattle.model.specs.declared.NodeKind.{NodeKind}
 use Rattle.model.specs.declared.NodeKind.TheVariants.{Scalar, Sequence, Mapping}
 use Rattle.model.specs.Events.{Ev}
 use Rattle.model.specs.Reading.{Marked}
-use Rattle.document.specs.declared.node.Node.{Node}
-use Rattle.serial.specs.Walk.{is_collection}
 use Rattle.serial.specs.Serialize.{start_kind, end_kind}
-use Rattle.serial.specs.Compose.{frame, Composed, TakesIn, alias, scalar, start, end}
+use Rattle.serial.specs.Compose.{Composed, TakesIn, alias, scalar, start, end}
 use Rattle.composer.specs.declared.frames.Frame.{Frame}
 use Rattle.composer.specs.declared.refusal.Refusal.TheVariants.{NotInTurn}
 use Rattle.composer.specs.State.{St, Spaces}
-use Rattle.composer.specs.Steps.{takes_child, ends_sequence, ends_mapping, ends_document, in_turn, closing, closed_by, taken}
-use Rattle.loads.specs.Tidy.{root_of, open_ones_of, composed_of, AllOpen, Tidy, collection_kind}
+use Rattle.composer.specs.Steps.{takes_child, in_turn, closing, closed_by, taken}
+use Rattle.loads.specs.Tidy.{composed_of, Tidy, collection_kind}
 use Rattle.loads.specs.Refusing.{TakesChild, EndsOne, InTurn}
 use Rattle.loads.proofs.Making.{received}
 use Rattle.loads.proofs.Ways.{ok_if}

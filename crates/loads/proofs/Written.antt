@@ -1,19 +1,18 @@
 -- Loading what was serialized.
-use Rattle.std.proofs.Common.{◌≡◌, ℕ, suc, ◌+◌, ◌≤◌, true, List, [], ◌∷◌, ◌++◌, map, length, sym, refl, ap, ◌∙◌, subst, arith}
+use Rattle.std.proofs.Common.{ℕ, List, ◌++◌, map, sym, ap, ◌∙◌, subst, arith}
 use Rattle.std.proofs.lemmas.List.{append_assoc}
-use Rattle.model.specs.Events.{Ev, all_allowed}
-use Rattle.model.specs.Graph.{Vertex, Book}
-use Rattle.model.specs.Reading.{Marked, bare}
+use Rattle.model.specs.Events.{all_allowed}
+use Rattle.model.specs.Graph.{Book}
+use Rattle.model.specs.Reading.{bare}
 use Rattle.serial.specs.Walk.{Token, Walk}
 use Rattle.serial.specs.Serialize.{walk_events}
-use Rattle.serial.specs.Compose.{Composed, TakesAll, beginning, Composes}
+use Rattle.serial.specs.Compose.{TakesAll, beginning, Composes}
 use Rattle.serial.specs.RoundTrip.{Sound, Tells}
-use Rattle.serial.specs.Stocks.{all_links, waiting, Bounded}
 use Rattle.serial.proofs.Paths.{round_trip}
 use Rattle.serial.proofs.Stocks.{counting, bounds_kept}
 use Rattle.serial.proofs.Unique.{takes_split}
 use Rattle.composer.specs.State.{Spaces}
-use Rattle.loads.specs.Room.{Fits, EventsFit}
+use Rattle.loads.specs.Room.{EventsFit}
 use Rattle.loads.specs.Written.{SpaceFor, WalkLoads, WalkStops}
 use Rattle.loads.proofs.Running.{allowed_append}
 use Rattle.loads.proofs.Exactly.{composed_loads, stops_within}

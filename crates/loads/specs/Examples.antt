@@ -1,16 +1,14 @@
 -- Examples, small enough to be looked at.
-use Rattle.std.specs.Prelude.{◌≡◌, ℕ, zero, suc, ◌+◌, List, [], ◌∷◌, ◌++◌, None, codes}
+use Rattle.std.specs.Prelude.{◌≡◌, ℕ, zero, suc, ◌+◌, List, [], ◌∷◌, None, codes}
 use Rattle.model.specs.declared.EventKind.{EventKind}
 use Rattle.model.specs.declared.EventKind.TheVariants.{DocumentStart, DocumentEnd, Alias, Scalar as ScalarEvent, SequenceStart, SequenceEnd, MappingStart, MappingEnd}
 use Rattle.model.specs.declared.NodeKind.TheVariants.{Sequence}
 use Rattle.model.specs.declared.Mark.{Mark}
-use Rattle.model.specs.Events.{Ev}
 use Rattle.model.specs.Graph.{Vertex}
 use Rattle.model.specs.Reading.{Marked}
 use Rattle.serial.specs.Serialize.{default_tag}
 use Rattle.composer.specs.declared.refusal.Refusal.TheVariants.{NotInTurn, UnknownAlias, AnchorAgain, TooDeep}
-use Rattle.composer.specs.State.{blank, Spaces, spaces_for}
-use Rattle.loader.specs.declared.answer.Answer.{Answer}
+use Rattle.composer.specs.State.{blank, Spaces}
 use Rattle.loader.specs.declared.answer.Answer.TheVariants.{Loaded as LoadedAnswer, Refused}
 use Rattle.loader.specs.declared.answer.Loaded.{Loaded}
 use Rattle.loader.specs.Loading.{Outcome, running}

@@ -1,5 +1,4 @@
 -- What the loader's code gives: its contract says that it equals the definition, so all of this holds of it.
-use Rattle.std.specs.Prelude.{◌≡◌}
 use Rattle.yaml.specs.Flow.{Flow}
 use Rattle.yaml.specs.Flow.{Sound as Allowed}
 use Rattle.document.specs.Check.{handed}

@@ -12,7 +12,7 @@ use Rattle.serial.specs.Walk.{Token, Walk}
 use Rattle.serial.specs.Walks.{LedTo}
 use Rattle.serial.specs.Compose.{Composes}
 use Rattle.serial.specs.RoundTrip.{Sound}
-use Rattle.composer.specs.State.{St, blank, Lengths, Spaces, spaces_for}
+use Rattle.composer.specs.State.{blank, Lengths, spaces_for}
 use Rattle.loader.specs.declared.answer.Loaded.{Loaded}
 use Rattle.loader.specs.declared.answer.Answer.TheVariants.{Loaded as LoadedAnswer}
 use Rattle.loader.specs.declared.answer.Phase.{Phase}

@@ -1,5 +1,5 @@
 -- Why an event is refused.
-use Rattle.std.specs.Prelude.{◌≡◌, ℕ, suc, ◌+◌, ◌<◌, ◌≤◌, true, false, ◌≢◌, ◌⊎◌, List, [], ◌∷◌, ◌++◌, map, length, Some, None, Ok, Err, Option}
+use Rattle.std.specs.Prelude.{◌≡◌, ℕ, suc, ◌+◌, ◌<◌, ◌≤◌, true, ◌≢◌, ◌⊎◌, List, [], ◌∷◌, ◌++◌, map, length, Some, None, Err, Option}
 use Rattle.model.specs.declared.EventKind.{EventKind}
 use Rattle.model.specs.declared.EventKind.TheVariants.{StreamStart, StreamEnd, DocumentStart, DocumentEnd, Alias, Scalar as ScalarEvent, SequenceStart, SequenceEnd, MappingStart, MappingEnd}
 use Rattle.model.specs.declared.NodeKind.{NodeKind}
@@ -18,7 +18,7 @@ use Rattle.composer.specs.declared.refusal.Refusal.TheVariants.{NotInTurn, Unkno
 use Rattle.composer.specs.State.{St, blank, Spaces}
 use Rattle.composer.specs.Steps.{start_of, taking}
 use Rattle.loader.specs.declared.answer.Answer.TheVariants.{Refused}
-use Rattle.loader.specs.Loading.{is_document_end, missing, running}
+use Rattle.loader.specs.Loading.{missing, running}
 use Rattle.loads.specs.Tidy.{composed_of, Tidy}
 use Rattle.loads.specs.Runs.{Went}
 

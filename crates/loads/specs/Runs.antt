@@ -1,17 +1,16 @@
 -- Whole runs: the events of a document, one after the other, and what loading them comes to.
-use Rattle.std.specs.Prelude.{◌≡◌, ℕ, true, false, List, [], ◌∷◌, ◌++◌, map, Some, None, Ok, Option}
+use Rattle.std.specs.Prelude.{◌≡◌, true, false, List, [], ◌∷◌, ◌++◌, map, Some, Ok, Option}
 use Rattle.model.specs.declared.Fault.{Fault}
 use Rattle.model.specs.Events.{Ev, all_allowed}
 use Rattle.model.specs.Graph.{Vertex}
 use Rattle.model.specs.Reading.{Marked, bare}
 use Rattle.document.specs.Books.{graph_of}
 use Rattle.serial.specs.Compose.{TakesAll, Composes}
-use Rattle.composer.specs.declared.refusal.Refusal.TheVariants.{NoEvent}
 use Rattle.composer.specs.State.{St, blank, Spaces}
 use Rattle.composer.specs.Steps.{ends_document, taking}
 use Rattle.loader.specs.declared.answer.Loaded.{Loaded}
-use Rattle.loader.specs.declared.answer.Answer.TheVariants.{Loaded as LoadedAnswer, Refused}
-use Rattle.loader.specs.Loading.{Outcome, is_document_end, flowing, complete, running, over}
+use Rattle.loader.specs.declared.answer.Answer.TheVariants.{Loaded as LoadedAnswer}
+use Rattle.loader.specs.Loading.{Outcome, is_document_end, flowing, complete, running}
 use Rattle.loads.specs.Tidy.{composed_of, Tidy}
 
 -- events one after the other, each accepted, none of them a document's end

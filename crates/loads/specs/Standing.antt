@@ -1,5 +1,5 @@
 -- What is loaded always stands as a document.
-use Rattle.std.specs.Prelude.{◌≡◌, ℕ, ◌≤◌, true, List, [], ◌∷◌, ◌++◌, map, Option}
+use Rattle.std.specs.Prelude.{◌≡◌, ℕ, ◌≤◌, true, List, ◌++◌, map, Option}
 use Rattle.model.specs.declared.Fault.{Fault}
 use Rattle.model.specs.Events.{Ev, all_allowed}
 use Rattle.model.specs.Reading.{Marked, bare}

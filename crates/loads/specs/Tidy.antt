@@ -1,8 +1,8 @@
 -- What the tables stand for while a document is composed, and what is always so of them.
-use Rattle.std.specs.Prelude.{◌≡◌, ℕ, suc, ◌+◌, ◌-◌, ◌<◌, ◌≤◌, Bool, true, false, List, [], ◌∷◌, ◌++◌, length, take, drop, Some}
+use Rattle.std.specs.Prelude.{◌≡◌, ℕ, suc, ◌+◌, ◌-◌, ◌<◌, ◌≤◌, Bool, true, false, List, [], ◌∷◌, length, take, drop, Some}
 use Rattle.std.specs.List.{AllByRecursion as All}
 use Rattle.model.specs.declared.NodeKind.{NodeKind}
-use Rattle.model.specs.declared.NodeKind.TheVariants.{Scalar, Sequence, Mapping}
+use Rattle.model.specs.declared.NodeKind.TheVariants.{Sequence, Mapping}
 use Rattle.model.specs.Graph.{nth}
 use Rattle.document.specs.declared.node.Node.{Node}
 use Rattle.document.specs.Books.{graph_of}

@@ -1,5 +1,5 @@
 -- Loading the events that a document was serialized to.
-use Rattle.std.specs.Prelude.{◌≡◌, ℕ, ◌≤◌, true, List, [], ◌∷◌, ◌++◌, map, length, Some, Option}
+use Rattle.std.specs.Prelude.{◌≡◌, ℕ, ◌≤◌, true, List, ◌∷◌, ◌++◌, map, length, Some, Option}
 use Rattle.model.specs.declared.Fault.{Fault}
 use Rattle.model.specs.Events.{Ev, all_allowed}
 use Rattle.model.specs.Graph.{Vertex, Book, Alike}

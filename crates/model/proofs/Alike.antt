@@ -1,5 +1,5 @@
 -- Being alike by paths is an equivalence.
-use Rattle.std.proofs.Common.{◌≡◌, sym, refl, ◌∙◌}
+use Rattle.std.proofs.Common.{sym, refl, ◌∙◌}
 use Rattle.model.specs.Graph.{Book, Alike}
 
 pub alike_same : (a : Book) → Alike a a

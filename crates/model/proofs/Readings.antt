@@ -1,12 +1,11 @@
 -- Reading and writing in any format undo one another.
-use Rattle.std.proofs.Common.{◌≡◌, ℕ, zero, suc, pred, ◌+◌, ◌<◌, ◌≤◌, Bool, true, false, ◌&&◌, List, [], ◌∷◌, ◌++◌, map, length, take, drop, Some, None, Option, sym, refl, ap, ◌∙◌, subst, ap₂, add-zero, add-suc, suc-add, arith}
-use Rattle.std.proofs.lemmas.List.{append-nil, append_assoc, take-append-drop, length-append, length-take, drop_at, flat_map_more}
-use Rattle.std.specs.List.{flat_map}
+use Rattle.std.proofs.Common.{◌≡◌, ℕ, zero, suc, pred, ◌+◌, ◌≤◌, Bool, true, false, ◌&&◌, List, [], ◌∷◌, ◌++◌, length, take, drop, Some, None, Option, sym, refl, ap, ◌∙◌, ap₂, add-zero, arith}
+use Rattle.std.proofs.lemmas.List.{take-append-drop, length-take, drop_at, flat_map_more}
 use Rattle.model.specs.declared.Cause.{Cause}
 use Rattle.model.specs.declared.Fault.{Fault}
 use Rattle.model.specs.declared.Cause.TheVariants.{HeadCut, HeadNotAllowed, TextsCut, ZeroByte, NotALine}
 use Rattle.model.specs.Events.{Ev, allowed, all_allowed, cause_number}
-use Rattle.model.specs.Reading.{Marked, Coming, Front, nothing, event, fault, marked_at, ended, faulty, before, by_front, reading, read_all, bare, events_of, fault_number, write_all, Format}
+use Rattle.model.specs.Reading.{Coming, Front, nothing, event, fault, marked_at, ended, faulty, before, by_front, reading, read_all, events_of, fault_number, write_all, Format}
 
 and_left : (a b : Bool) → (a && b) ≡ true → a ≡ true
 and_left true b h = refl

@@ -1,5 +1,5 @@
 -- What a format of events is, and what reading a list of bytes in it gives. Both formats of this project are such formats.
-use Rattle.std.specs.Prelude.{◌≡◌, ℕ, zero, suc, pred, ◌+◌, ◌≤◌, Bool, true, List, [], ◌∷◌, ◌++◌, map, length, take, Some, None, Option}
+use Rattle.std.specs.Prelude.{◌≡◌, ℕ, zero, suc, pred, ◌+◌, ◌≤◌, true, List, [], ◌∷◌, ◌++◌, map, length, take, Some, None, Option}
 use Rattle.std.specs.List.{flat_map}
 use Rattle.model.specs.declared.Cause.{Cause}
 use Rattle.model.specs.declared.Fault.{Fault}

@@ -1,5 +1,5 @@
 -- Nine bytes and more, read by their places.
-use Rattle.std.proofs.Common.{◌≡◌, ℕ, suc, ◌≤◌, List, [], ◌∷◌, length, get_or, drop, refl, arith}
+use Rattle.std.proofs.Common.{◌≡◌, ℕ, ◌≤◌, List, [], ◌∷◌, length, get_or, drop, refl, arith}
 use Rattle.yaml.specs.Shapes.{kind_at}
 use Rattle.packed.specs.Packed.{by_head, two_bytes, packed_front}
 

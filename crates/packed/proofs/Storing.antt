@@ -1,8 +1,8 @@
 -- An event's bytes, put one text after the other.
-use Rattle.std.proofs.Common.{◌≡◌, ℕ, ◌+◌, ◌≤◌, List, ◌++◌, length, take, sym, refl, ap, ◌∙◌, arith}
+use Rattle.std.proofs.Common.{◌≡◌, ℕ, ◌+◌, ◌≤◌, List, ◌++◌, length, take, refl, ap, ◌∙◌, arith}
 use Rattle.std.proofs.lemmas.List.{append_assoc}
 use Rattle.yaml.specs.Puts.{puts}
-use Rattle.yaml.proofs.Puts.{take_puts, length_puts}
+use Rattle.yaml.proofs.Puts.{take_puts}
 
 -- one text behind what stands already
 behind : (o o' bs front : List ℕ) (at end : ℕ) → o' ≡ puts o at bs → end ≡ at + length bs → end ≤ length o → take at o ≡ front → take end o' ≡ front ++ bs

@@ -1,10 +1,10 @@
 -- Worked examples of the packed format: they compute.
-use Rattle.std.specs.Prelude.{◌≡◌, ℕ, List, [], ◌∷◌, ◌++◌, Some, None, codes, refl}
+use Rattle.std.specs.Prelude.{◌≡◌, ℕ, List, [], ◌∷◌, ◌++◌, None, codes, refl}
 use Rattle.model.specs.declared.EventKind.{EventKind}
 use Rattle.model.specs.declared.EventKind.TheVariants.{StreamStart, StreamEnd, DocumentStart, DocumentEnd, Alias, Scalar, SequenceStart, SequenceEnd}
 use Rattle.model.specs.declared.Cause.TheVariants.{HeadCut, HeadNotAllowed, TextsCut, ZeroByte}
-use Rattle.model.specs.Events.{Ev, allowed}
-use Rattle.model.specs.Reading.{read_all, events_of, ended, faulty, fault, reading, write_all}
+use Rattle.model.specs.Events.{Ev}
+use Rattle.model.specs.Reading.{read_all, events_of, ended, fault, reading, write_all}
 use Rattle.packed.specs.Packed.{packed_of, packed_front}
 
 abbrev pub plain : EventKind → ℕ → ℕ → Ev

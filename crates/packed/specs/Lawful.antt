@@ -1,16 +1,16 @@
 -- The packed format is a format: what was written is read back, and only what is written is read.
-use Rattle.std.specs.Prelude.{◌≡◌, ℕ, zero, suc, ◌+◌, ◌*◌, ◌/◌, ◌%◌, ◌<◌, ◌≤◌, Bool, true, false, cond, ◌&&◌, List, [], ◌∷◌, ◌++◌, length, take, drop, Some, None, Option, ◌==◌, ◌≢◌, nat_le, nat_lt, refl}
-use Rattle.std.proofs.Common.{arith, sym, ap, ap₂, subst, ◌∙◌, take-add}
-use Rattle.std.proofs.lemmas.List.{append_assoc, length-append, length-take-le, length-drop, take_at, drop_at, take-append-drop}
-use Rattle.std.proofs.lemmas.Bool.{and_parts, and_from, leb-true, le-leb, eqb-true, lt-ltb, ltb-true, ltb-false, cond-true, cond-false, cases_Bool}
+use Rattle.std.specs.Prelude.{◌≡◌, ℕ, suc, ◌+◌, ◌*◌, ◌/◌, ◌%◌, ◌<◌, ◌≤◌, Bool, true, false, cond, ◌&&◌, List, [], ◌∷◌, ◌++◌, length, take, drop, Some, None, Option, ◌==◌, ◌≢◌, nat_le, nat_lt, refl}
+use Rattle.std.proofs.Common.{arith, sym, ap, ◌∙◌, take-add}
+use Rattle.std.proofs.lemmas.List.{append_assoc, length-append, length-take-le, length-drop, take_at, drop_at}
+use Rattle.std.proofs.lemmas.Bool.{and_parts, and_from, leb-true, le-leb, eqb-true, lt-ltb, ltb-true, cond-true, cond-false}
 use Rattle.model.specs.declared.EventKind.{EventKind}
 use Rattle.model.specs.declared.EventKind.TheVariants.{StreamStart, StreamEnd, DocumentStart, DocumentEnd, Alias, Scalar, SequenceStart, SequenceEnd, MappingStart, MappingEnd}
 use Rattle.model.specs.declared.Cause.{Cause}
 use Rattle.model.specs.declared.Cause.TheVariants.{HeadCut, HeadNotAllowed, TextsCut, ZeroByte}
-use Rattle.model.specs.Events.{Ev, Row, table, within, zero_free, allowed, kind_number}
+use Rattle.model.specs.Events.{Ev, table, within, zero_free, allowed, kind_number}
 use Rattle.model.specs.Reading.{Front, nothing, event, fault, Format}
 use Rattle.yaml.specs.Shapes.{kind_at}
-use Rattle.packed.specs.Packed.{head_bytes, head_of, packed_of, size_of, event_at, by_texts, by_head, two_bytes, packed_front}
+use Rattle.packed.specs.Packed.{head_bytes, packed_of, size_of, event_at, by_head, two_bytes, packed_front}
 
 kind_back : (k : EventKind) → kind_at (kind_number k) ≡ Some k
 kind_back StreamStart = refl

@@ -1,7 +1,7 @@
 -- What a packed reader means.
-use Rattle.std.specs.Prelude.{◌≡◌, ℕ, List, Some, None, Option}
+use Rattle.std.specs.Prelude.{◌≡◌, ℕ, List, None}
 use Rattle.std.specs.Option.{option_map}
-use Rattle.model.specs.Reading.{Coming, reading, read_all, events_of, fault_number, write_all}
+use Rattle.model.specs.Reading.{reading, read_all, events_of, fault_number, write_all}
 use Rattle.model.proofs.Readings.{coming_allowed}
 use Rattle.yaml.specs.Shapes.{ev_of}
 use Rattle.yaml.specs.Flow.{Flow, Sound}

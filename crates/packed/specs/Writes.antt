@@ -1,5 +1,5 @@
 -- What a packed writer means.
-use Rattle.std.specs.Prelude.{◌≡◌, ℕ, ◌+◌, ◌-◌, ◌≤◌, true, List, [], ◌++◌, length, take, drop}
+use Rattle.std.specs.Prelude.{◌≡◌, ℕ, ◌+◌, ◌-◌, ◌≤◌, true, List, ◌++◌, length, take}
 use Rattle.std.proofs.Common.{arith}
 use Rattle.model.specs.Events.{Ev, allowed}
 use Rattle.model.specs.Reading.{read_all, events_of, write_all, fault_number}

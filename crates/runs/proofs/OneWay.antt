@@ -1,5 +1,5 @@
 -- What a sink took reads back in one way only.
-use Rattle.std.proofs.Common.{◌≡◌, ℕ, Bool, true, false, List, [], ◌∷◌, map, None, sym, refl, ap, ◌∙◌, subst, arith}
+use Rattle.std.proofs.Common.{◌≡◌, ℕ, Bool, true, false, List, [], ◌∷◌, map, None, refl, ap, subst, arith}
 use Rattle.std.specs.List.{AllZip}
 use Rattle.model.specs.Events.{Ev}
 use Rattle.model.specs.Reading.{Marked, bare}
@@ -13,7 +13,7 @@ use Rattle.loader.specs.declared.answer.Answer.{Answer}
 use Rattle.loader.specs.declared.answer.Answer.TheVariants.{Loaded as LoadedAnswer}
 use Rattle.loader.specs.declared.answer.Phase.{Phase}
 use Rattle.loader.specs.Loading.{Outcome, loading, flowing}
-use Rattle.runs.specs.ReadBack.{FullSized, book_loaded, Gives, LoadsBack, took_end, last_answer, ReadsBack, OneReading}
+use Rattle.runs.specs.ReadBack.{FullSized, book_loaded, Gives, LoadsBack, took_end, last_answer, OneReading}
 
 -- a source of some events
 abbrev marked : Ev → Marked

@@ -1,16 +1,15 @@
 -- The events of a walk are allowed, where looks and anchors keep within their limits.
-use Rattle.std.proofs.Common.{◌≡◌, ℕ, zero, suc, ◌+◌, ◌/◌, ◌%◌, ◌≤◌, Bool, true, false, cond, not, ◌&&◌, eqb, ltb, leb, ◌≢◌, ◌⊎◌, List, [], ◌∷◌, ◌++◌, length, Some, None, codes, Option, sym, refl, ap, ◌∙◌, subst, ap₂, inl, inr, arith}
+use Rattle.std.proofs.Common.{◌≡◌, ℕ, ◌+◌, ◌/◌, ◌%◌, ◌≤◌, Bool, true, false, cond, not, eqb, ltb, ◌≢◌, List, [], ◌∷◌, ◌++◌, length, Some, None, codes, Option, sym, refl, ap, arith}
 use mathlib.Core.List.{Memᴰ}
-use Rattle.std.proofs.lemmas.Bool.{le-leb, ne_eqb, and_from, and_parts, cases_Bool, cond_both}
-use Rattle.model.specs.declared.EventKind.{EventKind}
+use Rattle.std.proofs.lemmas.Bool.{le-leb, ne_eqb, and_from, and_parts, cond_both}
 use Rattle.model.specs.declared.EventKind.TheVariants.{DocumentStart, DocumentEnd, Alias}
 use Rattle.model.specs.declared.NodeKind.{NodeKind}
 use Rattle.model.specs.declared.NodeKind.TheVariants.{Scalar, Sequence, Mapping}
 use Rattle.model.specs.Events.{Ev, Row, table, within, zero_free, allowed, all_allowed}
-use Rattle.model.specs.Graph.{Look, Vertex, Book, numbered}
+use Rattle.model.specs.Graph.{Look, Vertex, numbered}
 use Rattle.serial.specs.Walk.{Token, first, again, leave}
-use Rattle.serial.specs.Numbering.{number_of, digits, name, anchor_of}
-use Rattle.serial.specs.Serialize.{default_tag, same_bytes, start_kind, end_kind, all_flags, flags_of, plain, node_event, alias_event, token_events, walk_events, book_events}
+use Rattle.serial.specs.Numbering.{number_of, name, anchor_of}
+use Rattle.serial.specs.Serialize.{default_tag, same_bytes, start_kind, end_kind, all_flags, flags_of, plain, node_event, alias_event, token_events, walk_events}
 use Rattle.serial.specs.Limits.{LookWithin, LooksWithin, AnchorWithin, WalkAllowed, BookAllowed}
 
 within_from : (r : Row) (s f a t v : ℕ) → s ≤ r.most_style → f ≤ r.most_flags → r.least_anchor ≤ a → a ≤ r.most_anchor → t ≤ r.most_tag → v ≤ r.most_value → within r s f a t v ≡ true

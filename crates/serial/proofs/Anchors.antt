@@ -1,13 +1,11 @@
 -- The anchors that serializing gives tell the nodes apart.
-use Rattle.std.proofs.Common.{◌≡◌, ℕ, zero, suc, ◌+◌, ◌/◌, ◌%◌, ◌<◌, ◌≤◌, Bool, true, false, cond, not, ◌&&◌, ◌||◌, eqb, ltb, ◌≢◌, ◌⊎◌, List, [], ◌∷◌, ◌++◌, length, Some, codes, sym, refl, ap, ◌∙◌, subst, ap₂, inl, inr, arith}
-use mathlib.Core.List.{Memᴰ}
+use Rattle.std.proofs.Common.{◌≡◌, ℕ, zero, suc, ◌+◌, ◌/◌, ◌%◌, ◌<◌, ◌≤◌, true, false, cond, ◌||◌, eqb, ltb, ◌≢◌, ◌⊎◌, List, [], ◌∷◌, length, codes, sym, refl, ap, ◌∙◌, subst, inl, inr, arith}
 use Rattle.std.proofs.lemmas.List.{append_cancel_left}
-use Rattle.std.proofs.lemmas.Bool.{both_ways, eqb-true, eqb-false, eq-eqb, ne_eqb, ltb-true, ltb-false, or_cases, or_parts, or_from, or_left, or_right, cases_Bool, cases_eq, cond-true, cond-false}
-use Rattle.model.specs.Events.{zero_free}
-use Rattle.model.specs.Graph.{Vertex, Book}
-use Rattle.serial.specs.Walk.{Token, again, among, Walk}
+use Rattle.std.proofs.lemmas.Bool.{both_ways, eqb-true, eqb-false, eq-eqb, ne_eqb, or_cases, or_parts, or_from, or_left, or_right, cases_Bool, cond-true, cond-false}
+use Rattle.model.specs.Graph.{Vertex}
+use Rattle.serial.specs.Walk.{among}
 use Rattle.serial.specs.Numbering.{times, references, seconds_after, seconds, place_from, number_of, digits, name, anchor_of}
-use Rattle.serial.specs.RoundTrip.{Sound, Tells, Back, RoundTripAnchored}
+use Rattle.serial.specs.RoundTrip.{Sound, RoundTripAnchored}
 use Rattle.serial.proofs.Standing.{Distinct}
 use Rattle.serial.proofs.Paths.{round_trip}
 

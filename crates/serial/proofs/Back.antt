@@ -1,12 +1,12 @@
 -- Whatever the events of a walk compose to is alike; an example.
-use Rattle.std.proofs.Common.{◌≡◌, ℕ, suc, true, false, List, [], ◌∷◌, ◌++◌, codes, sym, refl, ap, ◌∙◌, subst, arith}
-use Rattle.model.specs.declared.EventKind.TheVariants.{SequenceStart, SequenceEnd}
+use Rattle.std.proofs.Common.{◌≡◌, List, [], ◌∷◌, codes, refl, subst, arith}
+use Rattle.model.specs.declared.EventKind.TheVariants.{SequenceEnd}
 use Rattle.model.specs.declared.NodeKind.TheVariants.{Sequence}
 use Rattle.model.specs.Graph.{Look, Vertex, Alike}
 use Rattle.serial.specs.Walk.{Token, first, again, leave, met, into, out, Steps, Walk}
 use Rattle.serial.specs.Numbering.{anchor_of}
 use Rattle.serial.specs.Serialize.{default_tag, plain, node_event, alias_event, walk_events}
-use Rattle.serial.specs.Compose.{alias, start, end, TakesAll, beginning, Composes}
+use Rattle.serial.specs.Compose.{alias, start, end, TakesAll, Composes}
 use Rattle.serial.specs.RoundTrip.{with_nodes, ComposedAlike}
 use Rattle.serial.proofs.Paths.{round_trip}
 use Rattle.serial.proofs.Unique.{one_document}

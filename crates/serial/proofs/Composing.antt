@@ -1,8 +1,8 @@
 -- Composing the events of a walk: step by step, what is composed stands for what is met.
-use Rattle.std.proofs.Common.{◌≡◌, ℕ, zero, suc, ◌%◌, ◌≤◌, Bool, true, false, cond, ◌≢◌, ◌⊎◌, List, [], ◌∷◌, ◌++◌, length, set, Some, None, codes, Option, sym, refl, ap, ◌∙◌, subst, ap₂, inl, inr, arith}
+use Rattle.std.proofs.Common.{◌≡◌, ℕ, zero, suc, ◌%◌, true, false, ◌≢◌, ◌⊎◌, List, [], ◌∷◌, ◌++◌, length, set, Some, codes, Option, sym, refl, ap, ◌∙◌, subst, ap₂, inl, inr, arith}
 use mathlib.Core.List.{Memᴰ}
 use Rattle.std.proofs.lemmas.List.{append-nil, append_assoc, length-append, length-set}
-use Rattle.std.proofs.lemmas.Bool.{both_ways, cases_eq, cond-false}
+use Rattle.std.proofs.lemmas.Bool.{cases_eq, cond-false}
 use Rattle.model.specs.declared.NodeKind.{NodeKind}
 use Rattle.model.specs.declared.NodeKind.TheVariants.{Scalar, Sequence, Mapping}
 use Rattle.model.specs.Events.{Ev}
@@ -10,8 +10,8 @@ use Rattle.model.specs.Graph.{Look, Vertex, numbered}
 use Rattle.serial.specs.Walk.{Token, first, again, leave, Spot, spot, among, is_collection, Step, met, leaf, into, out, Steps}
 use Rattle.serial.specs.Serialize.{same_bytes, start_kind, end_kind, plain, node_event, alias_event, token_events, walk_events, default_tag}
 use Rattle.serial.specs.Compose.{Frame, frame, Composed, Takes, Complete, TakesIn, alias, scalar, start, end, TakesAll, beginning, closed, resolved, look_of, bare_vertex, noted, named, fresh, after_alias, after_scalar, after_start, after_end}
-use Rattle.serial.specs.RoundTrip.{Sound, SoundVertex, Tells}
-use Rattle.serial.proofs.Standing.{Stands, here, there, Distinct, Matches, nil, cons, bounds, is_among, stands_some, one_old, one_new, matches_grow, matches_push, matches_length, bytes_differ, names_of, named_old, fresh_new, nth_left, nth_push, nth_set, nth_set_other}
+use Rattle.serial.specs.RoundTrip.{Sound}
+use Rattle.serial.proofs.Standing.{Stands, here, there, Distinct, Matches, nil, bounds, stands_some, one_old, matches_grow, matches_push, matches_length, bytes_differ, names_of, named_old, fresh_new, nth_left, nth_push, nth_set, nth_set_other}
 
 -- node k is among the open ones
 abbrev pub Opened : ℕ → List Frame → Type 0

@@ -2,7 +2,7 @@
 use Rattle.std.proofs.Common.{◌≡◌, ℕ, zero, suc, ◌+◌, ◌≤◌, true, List, [], ◌∷◌, ◌++◌, length, replicate, Some, sym, refl, subst, arith}
 use Rattle.std.proofs.lemmas.List.{length-append, length-replicate, append-nil}
 use Rattle.model.specs.Graph.{Vertex, numbered}
-use Rattle.serial.specs.Walk.{Token, first, Spot, spot, among, met, Steps}
+use Rattle.serial.specs.Walk.{Token, Spot, spot, among, Steps}
 use Rattle.serial.specs.Walks.{Visit, Visits, no_visit, visit_more, sum_met, sum_over, weight, Once, met_by}
 use Rattle.serial.proofs.Among.{Each}
 use Rattle.serial.proofs.Going.{EachIn, steps_each, steps_once, steps_over, steps_work, steps_stay, steps_met}

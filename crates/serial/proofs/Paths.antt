@@ -1,12 +1,12 @@
 -- Documents whose nodes stand for one another are alike by paths; so what comes back from a walk is alike.
-use Rattle.std.proofs.Common.{◌≡◌, ℕ, zero, suc, Bool, true, false, ◌≢◌, ◌⊎◌, List, [], ◌∷◌, ◌++◌, length, is_some, Some, None, Option, sym, refl, ap, ◌∙◌, subst, ap₂, inl, inr, arith}
-use Rattle.model.specs.Graph.{Look, Vertex, Book, nth, numbered, root, follow, leads_from, leads, look_at, Alike}
-use Rattle.serial.specs.Walk.{Token, Spot, spot, Walk, Steps}
+use Rattle.std.proofs.Common.{◌≡◌, ℕ, zero, suc, List, [], ◌∷◌, length, is_some, Some, None, Option, sym, refl, ap, ◌∙◌, subst, inl, inr, arith}
+use Rattle.model.specs.Graph.{Vertex, Book, nth, numbered, root, follow, leads_from, leads, look_at, Alike}
+use Rattle.serial.specs.Walk.{Token, spot, Walk}
 use Rattle.serial.specs.Serialize.{walk_events}
-use Rattle.serial.specs.Compose.{Frame, frame, Composed, TakesAll, beginning, Composes}
-use Rattle.serial.specs.RoundTrip.{Sound, Tells, with_nodes, Back, RoundTrip}
-use Rattle.serial.proofs.Standing.{Stands, here, there, Distinct, Matches, nil, cons, bounds, one_old, one_new}
-use Rattle.serial.proofs.Composing.{Opened, Placed, Fits, after, above, Tied, Reached, reached, tied_first}
+use Rattle.serial.specs.Compose.{Frame, frame, Composed, Composes}
+use Rattle.serial.specs.RoundTrip.{Sound, Tells, with_nodes, RoundTrip}
+use Rattle.serial.proofs.Standing.{Stands, Distinct, Matches, nil, cons, bounds, one_old, one_new}
+use Rattle.serial.proofs.Composing.{Opened, Fits, after, above, Tied, reached, tied_first}
 
 -- the nodes h are the nodes met of g, in the order of their meeting
 pub record Renumbered (g h : List Vertex) (seen : List ℕ) : Type 0 where

@@ -1,15 +1,14 @@
 -- What allowed events compose to is sound.
-use Rattle.std.proofs.Common.{◌≡◌, ℕ, zero, suc, ◌+◌, ◌%◌, ◌<◌, ◌≤◌, Bool, true, false, cond, ◌&&◌, ◌||◌, eqb, leb, ◌≢◌, ◌⊎◌, List, [], ◌∷◌, ◌++◌, length, set, Some, None, codes, Option, sym, refl, ap, ◌∙◌, subst, ap₂, inl, inr, arith}
+use Rattle.std.proofs.Common.{◌≡◌, ℕ, zero, suc, ◌%◌, ◌≤◌, true, false, ◌&&◌, ◌||◌, eqb, leb, ◌≢◌, ◌⊎◌, List, [], ◌∷◌, ◌++◌, length, set, Some, codes, sym, refl, ap, ◌∙◌, subst, inl, inr, arith}
 use Rattle.std.proofs.lemmas.List.{length-append, length-set, nil_from_length}
-use Rattle.std.proofs.lemmas.Bool.{both_ways, eqb-true, leb-true, or_cases, and_parts, cases_Bool, cases_eq, cond-true, cond-false}
-use Rattle.model.specs.declared.EventKind.{EventKind}
+use Rattle.std.proofs.lemmas.Bool.{both_ways, eqb-true, leb-true, or_cases, and_parts, cases_Bool, cases_eq}
 use Rattle.model.specs.declared.NodeKind.{NodeKind}
 use Rattle.model.specs.declared.NodeKind.TheVariants.{Scalar, Sequence, Mapping}
 use Rattle.model.specs.Events.{Ev, Row, table, within, zero_free, allowed, all_allowed}
-use Rattle.model.specs.Graph.{Look, Vertex, nth, numbered}
+use Rattle.model.specs.Graph.{Vertex, numbered}
 use Rattle.serial.specs.Walk.{among, is_collection}
-use Rattle.serial.specs.Serialize.{same_bytes, start_kind, end_kind, default_tag}
-use Rattle.serial.specs.Compose.{Frame, frame, Composed, Complete, TakesIn, alias, scalar, start, end, TakesAll, beginning, Composes, resolved, look_of, bare_vertex, noted, named, closed, after_alias, after_scalar, after_start, after_end}
+use Rattle.serial.specs.Serialize.{same_bytes, start_kind, default_tag}
+use Rattle.serial.specs.Compose.{Frame, frame, Composed, Complete, TakesIn, alias, scalar, start, end, TakesAll, beginning, resolved, look_of, bare_vertex, noted, named}
 use Rattle.serial.specs.RoundTrip.{Sound, SoundVertex, ComposedSound}
 use Rattle.serial.proofs.Standing.{bytes_same, nth_set}
 use Rattle.serial.proofs.Composing.{closed_is, numbered_set_other, one_vertex}

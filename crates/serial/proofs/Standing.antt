@@ -1,7 +1,7 @@
 -- The nodes met, newest first, as a numbering: the first one met is number 1. It only grows.
-use Rattle.std.proofs.Common.{◌≡◌, ℕ, zero, suc, ◌≤◌, Bool, true, false, cond, ◌&&◌, ◌||◌, eqb, ◌≢◌, ◌⊎◌, List, [], ◌∷◌, ◌++◌, length, set, Some, None, Option, sym, refl, ap, ◌∙◌, subst, ap₂, inl, inr, arith}
-use Rattle.std.proofs.lemmas.Bool.{both_ways, eqb-true, eqb-false, eq-eqb, or_cases, or_parts, or_left, or_right, and_parts, and_cases, and_from, cases_Bool, cond-true, cond-false}
-use Rattle.model.specs.Graph.{nth, numbered}
+use Rattle.std.proofs.Common.{◌≡◌, ℕ, zero, suc, ◌≤◌, true, false, eqb, ◌≢◌, List, [], ◌∷◌, ◌++◌, length, set, Some, None, sym, refl, ap, ◌∙◌, subst, ap₂, inl, inr, arith}
+use Rattle.std.proofs.lemmas.Bool.{both_ways, eqb-true, eqb-false, eq-eqb, or_cases, or_parts, or_left, or_right, and_parts, and_from, cases_Bool, cond-true, cond-false}
+use Rattle.model.specs.Graph.{nth}
 use Rattle.serial.specs.Walk.{among}
 use Rattle.serial.specs.Serialize.{same_bytes}
 use Rattle.serial.specs.Compose.{named, noted, fresh}

@@ -1,5 +1,5 @@
 -- How much is composed of a walk's events, at the end and on the way.
-use Rattle.std.proofs.Common.{◌≡◌, ℕ, zero, suc, ◌+◌, ◌<◌, ◌≤◌, Bool, true, false, eqb, ◌≢◌, ◌⊎◌, List, [], ◌∷◌, ◌++◌, length, set, Some, None, Option, sym, refl, ap, ◌∙◌, subst, ap₂, inl, inr, arith}
+use Rattle.std.proofs.Common.{◌≡◌, ℕ, zero, suc, ◌+◌, ◌<◌, ◌≤◌, true, false, eqb, ◌≢◌, List, [], ◌∷◌, ◌++◌, length, set, Some, None, Option, sym, refl, ap, ◌∙◌, subst, arith}
 use mathlib.Core.List.{Memᴰ}
 use Rattle.std.proofs.lemmas.Bool.{eqb-false, or_parts}
 use Rattle.std.proofs.lemmas.List.{append_assoc, length-append, length-set, nil_from_length}
@@ -9,11 +9,11 @@ use Rattle.model.specs.declared.NodeKind.{NodeKind}
 use Rattle.model.specs.declared.NodeKind.TheVariants.{Scalar, Sequence, Mapping}
 use Rattle.model.specs.Events.{Ev}
 use Rattle.model.specs.Graph.{Look, Vertex, nth, numbered}
-use Rattle.serial.specs.Walk.{Token, first, again, leave, Spot, spot, among, is_collection, Step, met, leaf, into, out, Steps, Walk}
+use Rattle.serial.specs.Walk.{Token, again, Spot, spot, among, is_collection, Step, met, leaf, into, out, Steps}
 use Rattle.serial.specs.Serialize.{start_kind, end_kind, token_events, walk_events}
-use Rattle.serial.specs.Compose.{Frame, frame, Composed, TakesIn, alias, scalar, start, end, TakesAll, beginning, Composes, closed, bare_vertex, look_of, noted}
-use Rattle.serial.specs.RoundTrip.{Sound, Tells}
-use Rattle.serial.specs.Stocks.{all_links, links_of, text_of, all_text, texts_of, name_bytes, anchor_bytes, is_first, is_child, firsts, children, waiting, stock, to_come, Counted, Counting, Bounded, Bounds}
+use Rattle.serial.specs.Compose.{Frame, frame, Composed, TakesIn, alias, scalar, start, end, TakesAll, beginning, bare_vertex, look_of, noted}
+use Rattle.serial.specs.RoundTrip.{Sound}
+use Rattle.serial.specs.Stocks.{all_links, links_of, text_of, all_text, texts_of, name_bytes, anchor_bytes, is_first, is_child, firsts, children, waiting, stock, to_come, Counting, Bounds}
 use Rattle.serial.proofs.Standing.{Stands, here, there, Distinct, bounds, stands_some, names_of, nth_push}
 use Rattle.serial.proofs.Anchors.{fewer}
 use Rattle.serial.proofs.Composing.{Tied, Next, next, tied_first, closed_is, numbered_set_other, one_vertex, Fits, before, after, above}

@@ -1,8 +1,7 @@
 -- Composing: how the events of one document's nodes become its nodes. Every node event is a node, numbered in order; every link is the node of its child, in order;
 -- an alias is the node that its anchor names, and an anchor names a node from the event that gives it on.
-use Rattle.std.specs.Prelude.{◌≡◌, ℕ, suc, ◌+◌, ◌*◌, ◌%◌, Bool, true, false, cond, List, [], ◌∷◌, ◌++◌, length, Some, None, codes, Option, slice_set}
-use Rattle.model.specs.declared.EventKind.{EventKind}
-use Rattle.model.specs.declared.EventKind.TheVariants.{StreamStart, StreamEnd, DocumentStart, DocumentEnd, Alias, Scalar as ScalarEvent, SequenceStart, SequenceEnd, MappingStart, MappingEnd}
+use Rattle.std.specs.Prelude.{◌≡◌, ℕ, suc, ◌%◌, true, cond, List, [], ◌∷◌, ◌++◌, length, Some, None, codes, Option, slice_set}
+use Rattle.model.specs.declared.EventKind.TheVariants.{Alias, Scalar as ScalarEvent}
 use Rattle.model.specs.declared.NodeKind.{NodeKind}
 use Rattle.model.specs.declared.NodeKind.TheVariants.{Scalar, Sequence, Mapping}
 use Rattle.model.specs.Events.{Ev}

@@ -1,5 +1,5 @@
 -- Anchors: which nodes get a number, and how the number is written.
-use Rattle.std.specs.Prelude.{ℕ, zero, suc, ◌+◌, ◌/◌, ◌%◌, Bool, cond, List, [], ◌∷◌, ◌++◌, Some, None, codes, Option, ◌==◌, nat_lt}
+use Rattle.std.specs.Prelude.{ℕ, suc, ◌+◌, ◌/◌, ◌%◌, cond, List, [], ◌∷◌, ◌++◌, codes, ◌==◌, nat_lt}
 use Rattle.model.specs.Graph.{Vertex}
 
 -- how often a node stands in a list

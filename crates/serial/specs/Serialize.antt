@@ -1,12 +1,12 @@
 -- The events of a walk.
-use Rattle.std.specs.Prelude.{◌≡◌, ℕ, Bool, true, cond, ◌&&◌, List, [], ◌∷◌, ◌++◌, map, Some, None, codes, Option, ◌==◌}
+use Rattle.std.specs.Prelude.{ℕ, Bool, true, cond, ◌&&◌, List, [], ◌∷◌, ◌++◌, Some, None, codes, Option, ◌==◌}
 use Rattle.model.specs.declared.EventKind.{EventKind}
 use Rattle.model.specs.declared.EventKind.TheVariants.{DocumentStart, DocumentEnd, Alias, Scalar as ScalarEvent, SequenceStart, SequenceEnd, MappingStart, MappingEnd}
 use Rattle.model.specs.declared.NodeKind.{NodeKind}
 use Rattle.model.specs.declared.NodeKind.TheVariants.{Scalar, Sequence, Mapping}
 use Rattle.model.specs.Events.{Ev}
 use Rattle.model.specs.Graph.{Look, Vertex, Book, numbered}
-use Rattle.serial.specs.Walk.{Token, first, again, leave, Walk}
+use Rattle.serial.specs.Walk.{Token, first, again, leave}
 use Rattle.serial.specs.Numbering.{anchor_of}
 
 -- the tag that a node has when its event gives none, by kind

@@ -1,6 +1,5 @@
 -- How much there is: nodes, links, children met, children that wait in open collections.
-use Rattle.std.specs.Prelude.{◌≡◌, ℕ, suc, ◌+◌, ◌≤◌, ◌≢◌, List, [], ◌∷◌, ◌++◌, length, Some, None, Option}
-use mathlib.Core.List.{Memᴰ}
+use Rattle.std.specs.Prelude.{◌≡◌, ℕ, suc, ◌+◌, ◌≤◌, List, [], ◌∷◌, ◌++◌, length, Some, None, Option}
 use Rattle.model.specs.Events.{Ev}
 use Rattle.model.specs.Graph.{Look, Vertex, numbered}
 use Rattle.serial.specs.Walk.{Token, first, again, leave, Spot, spot, Walk}

@@ -1,8 +1,8 @@
 -- The walk over a document from its root: a node met first is given, a collection's children follow and then its end; a node met again is only named.
-use Rattle.std.specs.Prelude.{◌≡◌, ℕ, suc, ◌≤◌, Bool, true, false, ◌||◌, List, [], ◌∷◌, ◌++◌, length, Some, None, Option, ◌==◌}
+use Rattle.std.specs.Prelude.{◌≡◌, ℕ, suc, ◌≤◌, Bool, true, false, ◌||◌, List, [], ◌∷◌, length, Some, ◌==◌}
 use Rattle.model.specs.declared.NodeKind.{NodeKind}
 use Rattle.model.specs.declared.NodeKind.TheVariants.{Scalar, Sequence, Mapping}
-use Rattle.model.specs.Graph.{Look, Vertex, numbered}
+use Rattle.model.specs.Graph.{Vertex, numbered}
 
 -- one step of the walk: a node met first, a node met again, the end of a collection
 pub data Token : Type 0 where

@@ -1,13 +1,13 @@
 -- The examples come out as they say.
-use Rattle.std.proofs.Common.{◌≡◌, ℕ, ◌≤◌, true, false, List, [], ◌∷◌, ◌++◌, length, sym, refl, ap, ◌∙◌, ap₂, inl, inr, arith}
+use Rattle.std.proofs.Common.{ℕ, ◌≤◌, List, [], ◌∷◌, ◌++◌, length, sym, refl, ap, ap₂, inl, inr, arith}
 use mathlib.Core.List.{Memᴰ}
 use Rattle.model.specs.Reading.{reading}
 use Rattle.lines.specs.Line.{line_of, escape_byte}
-use Rattle.serial.specs.Walk.{Token, first, again, leave, Step, Steps, Walk}
+use Rattle.serial.specs.Walk.{Token, again, Step, Steps, Walk}
 use Rattle.serial.proofs.Determined.{walk_same}
 use Rattle.loader.specs.Loading.{running}
-use Rattle.runs.specs.Writer.{State, Dumps, start_due, end_due, Walked, NumberedAgain}
-use Rattle.worked.specs.Worked.{book, book_tokens, itself, itself_tokens, sharing, sharing_tokens, handing, empty, Worked}
+use Rattle.runs.specs.Writer.{Dumps, start_due, end_due, NumberedAgain}
+use Rattle.worked.specs.Worked.{book, book_tokens, itself, itself_tokens, sharing, sharing_tokens, Worked}
 
 book_walk : Walk book.nodes 256 book_tokens (2 ∷ (1 ∷ []))
 book_walk = record { steps = Steps.more (Step.into refl refl refl) (omega arith) (Steps.more (Step.leaf refl refl refl) (omega arith) (Steps.more (Step.met refl) (omega arith) (Steps.more Step.out (omega arith) Steps.none))) }

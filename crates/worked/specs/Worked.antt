@@ -1,8 +1,6 @@
 -- Examples of loading and dumping, worked out to the end.
-use Rattle.std.specs.Prelude.{◌≡◌, ℕ, true, false, List, [], ◌∷◌, ◌++◌, length, Some, None, codes}
-use Rattle.model.specs.declared.NodeKind.{NodeKind}
+use Rattle.std.specs.Prelude.{◌≡◌, ℕ, true, false, List, [], ◌∷◌, ◌++◌, length, None, codes}
 use Rattle.model.specs.declared.NodeKind.TheVariants.{Scalar, Sequence}
-use Rattle.model.specs.Events.{Ev}
 use Rattle.model.specs.Graph.{Vertex, Book}
 use Rattle.model.specs.Reading.{read_all, write_all}
 use Rattle.yaml.specs.Flow.{Flow}
@@ -14,7 +12,6 @@ use Rattle.serial.specs.Numbering.{name}
 use Rattle.serial.specs.Serialize.{default_tag, book_events}
 use Rattle.composer.specs.State.{Lengths}
 use Rattle.loader.specs.declared.answer.Loaded.{Loaded}
-use Rattle.loader.specs.declared.answer.Answer.{Answer}
 use Rattle.loader.specs.declared.answer.Answer.TheVariants.{Loaded as LoadedAnswer, Ended as EndedAnswer}
 use Rattle.loader.specs.declared.answer.Phase.TheVariants.{Fresh}
 use Rattle.loader.specs.Loading.{Outcome, loading}

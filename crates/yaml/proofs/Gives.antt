@@ -1,5 +1,5 @@
 -- What a source over bytes in any format gives, by what stands at their front.
-use Rattle.std.proofs.Common.{◌≡◌, ℕ, suc, ◌+◌, List, [], ◌∷◌, drop, Some, None, Option, sym, refl, ap, ◌∙◌, arith}
+use Rattle.std.proofs.Common.{◌≡◌, ℕ, suc, ◌+◌, List, drop, Some, None, Option, sym, refl, ap, ◌∙◌, arith}
 use Rattle.model.specs.declared.Cause.{Cause}
 use Rattle.model.specs.Events.{Ev}
 use Rattle.model.specs.Reading.{Coming, Front, nothing, event, fault, marked_at, before, reading, Format}

@@ -1,5 +1,5 @@
 -- What a sink over bytes in any format holds after one event more.
-use Rattle.std.proofs.Common.{◌≡◌, ℕ, Bool, true, false, cond, List, [], ◌∷◌, ◌++◌, Some, None, sym, refl, ap, ◌∙◌, arith}
+use Rattle.std.proofs.Common.{◌≡◌, ℕ, Bool, true, false, cond, List, [], ◌∷◌, ◌++◌, Some, None, refl, ap, ◌∙◌, arith}
 use Rattle.model.specs.Events.{Ev, allowed}
 use Rattle.model.specs.Reading.{Front, read_all, events_of, fault_number, Format}
 use Rattle.model.proofs.Readings.{one_more_lem}

@@ -1,7 +1,6 @@
-use Rattle.std.proofs.Common.{◌≡◌, true, Ok, Err, sym, ap, ◌∙◌, subst, arith}
+use Rattle.std.proofs.Common.{Ok, Err, ap, ◌∙◌, subst, arith}
 use Rattle.model.specs.Events.{Ev, allowed}
 use Rattle.yaml.specs.View.{Took}
-use Rattle.convert.specs.Copies.{latest_event}
 use Rattle.convert.proofs.Going.{so_far_more, refused, at_end, at_fault, gave_one, gave_none, latest_is, latest_there, heads_latest, came_allowed}
 use Rattle.convert.proofs.convert.hand_all.Goals as goal
 

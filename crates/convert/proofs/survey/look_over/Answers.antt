@@ -1,11 +1,9 @@
-use Rattle.std.proofs.Common.{◌≡◌, ◌+◌, ◌-◌, ◌<◌, ◌≤◌, true, length, get_or, set, sym, ap, ◌∙◌, arith}
+use Rattle.std.proofs.Common.{◌≡◌, ◌+◌, ◌-◌, length, get_or, set, ap, ◌∙◌, arith}
 use Rattle.model.specs.Events.{allowed}
-use Rattle.convert.specs.Copies.{latest_event}
 use Rattle.convert.proofs.Going.{gave_one, gave_none, latest_is, latest_there, heads_latest, came_allowed, gave_heavy}
-use Rattle.convert.proofs.Counting.{counted_none, ten_zeros, kind_below, anchors_below, bears_few, counted_more, counted_all}
+use Rattle.convert.proofs.Counting.{kind_below, anchors_below, bears_few, counted_more, counted_all}
 use Rattle.convert.specs.Surveys.{bears_anchor}
 use Rattle.model.specs.Events.{kind_number}
-use Rattle.convert.proofs.survey.look_over.Given as given
 use Rattle.convert.proofs.survey.look_over.Goals as goal
 
 pub returns-in-Err : goal.returns-in-Err

@@ -1,4 +1,4 @@
-use Rattle.std.proofs.Common.{◌≡◌, Some, None, sym, ap, ◌∙◌}
+use Rattle.std.proofs.Common.{ap, ◌∙◌}
 use Rattle.yaml.specs.View.{size_of}
 use Rattle.yaml.proofs.Takes.{sized, has_size}
 use Rattle.convert.specs.Copies.{latest_event}

@@ -1,4 +1,4 @@
-use Rattle.std.proofs.Common.{[], ◌∷◌, map, sym, ap, ◌∙◌, arith}
+use Rattle.std.proofs.Common.{[], ◌∷◌, sym, ap, ◌∙◌, arith}
 use Rattle.serial.specs.Numbering.{anchor_of}
 use Rattle.serial.specs.Serialize.{alias_event}
 use Rattle.document.specs.Books.{book_of}

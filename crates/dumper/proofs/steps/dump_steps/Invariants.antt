@@ -1,4 +1,4 @@
-use Rattle.std.proofs.Common.{◌≡◌, take}
+use Rattle.std.proofs.Common.{take}
 use Rattle.serial.specs.Numbering.{anchor_of}
 use Rattle.document.specs.Books.{book_of}
 use Rattle.runs.specs.Writer.{walk_dues}

@@ -1,5 +1,4 @@
 use Rattle.std.proofs.Common.{length, refl, subst}
-use Rattle.document.specs.Books.{book_of}
 use Rattle.runs.specs.Writer.{dumping, Called}
 use Rattle.dumper.specs.Answers.{answer_of}
 use Rattle.dumper.specs.Calls.{handed}

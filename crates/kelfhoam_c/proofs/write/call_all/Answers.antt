@@ -1,4 +1,4 @@
-use Rattle.std.proofs.Common.{◌≡◌, ◌<◌, ◌≤◌, length, get_or, take, drop, sym, refl, ◌∙◌, subst, arith}
+use Rattle.std.proofs.Common.{◌≡◌, length, get_or, take, drop, refl, ◌∙◌, subst, arith}
 use Rattle.document.specs.Check.{handed}
 use Rattle.dumper.specs.States.{state_of}
 use Rattle.kelfhoam_c.specs.Writing.{Chain, lent, made_of}

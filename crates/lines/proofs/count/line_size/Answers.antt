@@ -1,4 +1,4 @@
-use Rattle.std.proofs.Common.{◌≡◌, true, sym, arith}
+use Rattle.std.proofs.Common.{◌≡◌, true, arith}
 use Rattle.yaml.specs.Shapes.{ev_of}
 use Rattle.model.specs.Events.{allowed}
 use Rattle.lines.specs.Lawful.{short}

@@ -1,4 +1,4 @@
-use Rattle.std.proofs.Common.{◌≡◌, ◌≤◌, true, length, sym, ap, ◌∙◌, ap₂, arith}
+use Rattle.std.proofs.Common.{◌≡◌, length, sym, ap, ◌∙◌, ap₂, arith}
 use Rattle.model.specs.Events.{Ev, allowed}
 use Rattle.model.specs.Reading.{event}
 use Rattle.yaml.specs.Shapes.{ev_of}

@@ -1,6 +1,6 @@
-use Rattle.std.proofs.Common.{◌≡◌, ◌<◌, ◌≤◌, length, get_or, drop, set, sym, ap, ◌∙◌, arith}
+use Rattle.std.proofs.Common.{◌≡◌, ◌<◌, length, get_or, drop, set, ap, ◌∙◌, arith}
 use Rattle.std.proofs.lemmas.List.{length-drop}
-use Rattle.lines.specs.Line.{unescaped, untext}
+use Rattle.lines.specs.Line.{unescaped}
 use Rattle.lines.specs.Texts.{goes_on}
 use Rattle.lines.proofs.Unescaping.{one_escaped, one_plain, too_long, all_read}
 use Rattle.lines.proofs.part.read_text.Goals as goal

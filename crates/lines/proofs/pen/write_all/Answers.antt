@@ -1,4 +1,4 @@
-use Rattle.std.proofs.Common.{◌+◌, ◌≤◌, List, [], ◌∷◌, length, get_or, take, sym, subst, arith}
+use Rattle.std.proofs.Common.{[], ◌∷◌, get_or, take, sym, subst, arith}
 use Rattle.std.proofs.lemmas.List.{take_more, take_all}
 use Rattle.lines.proofs.pen.write_all.Goals as goal
 

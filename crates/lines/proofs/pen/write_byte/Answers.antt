@@ -1,4 +1,4 @@
-use Rattle.std.proofs.Common.{◌≡◌, [], ◌∷◌, length, sym, ap, ◌∙◌, subst, arith}
+use Rattle.std.proofs.Common.{◌≡◌, [], ◌∷◌, length, sym, ap, subst, arith}
 use Rattle.lines.specs.Line.{escape_byte}
 use Rattle.lines.proofs.Escaping.{escaped_byte, same_byte}
 use Rattle.lines.proofs.pen.write_byte.Goals as goal

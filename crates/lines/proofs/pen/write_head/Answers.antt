@@ -1,4 +1,4 @@
-use Rattle.std.proofs.Common.{◌+◌, ◌++◌, subst}
+use Rattle.std.proofs.Common.{◌++◌, subst}
 use Rattle.lines.specs.Line.{digits}
 use Rattle.lines.proofs.pen.write_head.Goals as goal
 

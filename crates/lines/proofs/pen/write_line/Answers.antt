@@ -1,9 +1,8 @@
-use Rattle.std.proofs.Common.{◌≡◌, ◌≤◌, List, [], ◌∷◌, ◌++◌, length, sym, refl, subst, arith}
-use Rattle.std.proofs.lemmas.List.{append_assoc, length-append}
-use Rattle.model.specs.Events.{Ev}
+use Rattle.std.proofs.Common.{List, [], ◌∷◌, ◌++◌, subst, arith}
+use Rattle.std.proofs.lemmas.List.{length-append}
 use Rattle.yaml.specs.Shapes.{ev_of}
-use Rattle.lines.specs.Line.{word, digits, optional, value_part, line_of}
-use Rattle.lines.specs.Lawful.{lengths, small_digits, length_line, length_word}
+use Rattle.lines.specs.Line.{word, digits, optional, value_part}
+use Rattle.lines.specs.Lawful.{small_digits, length_line, length_word}
 use Rattle.lines.proofs.Escaping.{line_parts}
 use Rattle.lines.proofs.pen.write_line.Goals as goal
 

@@ -1,4 +1,4 @@
-use Rattle.std.proofs.Common.{◌+◌, ◌≤◌, List, [], ◌∷◌, length, get_or, take, sym, ap, subst, arith}
+use Rattle.std.proofs.Common.{List, length, get_or, take, sym, ap, subst, arith}
 use Rattle.std.proofs.lemmas.List.{take_all, length-append}
 use Rattle.lines.specs.Line.{escape, escape_byte}
 use Rattle.lines.proofs.Escaping.{escape_more, next_fits}

@@ -1,4 +1,4 @@
-use Rattle.std.proofs.Common.{◌≡◌, length, sym, refl, ap, ◌∙◌, subst, arith}
+use Rattle.std.proofs.Common.{◌≡◌, length, sym, refl, ◌∙◌, subst, arith}
 use Rattle.document.specs.Books.{book_of}
 use Rattle.runs.specs.Writer.{dumping, Called}
 use Rattle.dumper.specs.Answers.{answer_of}

@@ -1,4 +1,4 @@
-use Rattle.std.proofs.Common.{◌≡◌, ◌-◌, take, sym, refl, ap, ◌∙◌, arith}
+use Rattle.std.proofs.Common.{◌≡◌, ◌-◌, take, ap, ◌∙◌, arith}
 use Rattle.model.specs.Reading.{read_all, events_of, fault_number}
 use Rattle.model.proofs.Readings.{whole_written, no_fault}
 use Rattle.lines.specs.Line.{line_front}

@@ -1,4 +1,4 @@
-use Rattle.std.proofs.Common.{◌≡◌, ◌+◌, ◌≤◌, length, get_or, take, drop, set, sym, ap, ◌∙◌, add_assoc, arith}
+use Rattle.std.proofs.Common.{◌+◌, ◌≤◌, get_or, drop, set, sym, ap, ◌∙◌, add_assoc, arith}
 use Rattle.std.proofs.lemmas.List.{length-set, take-set-le, at_drop_more, at_drop_all}
 use Rattle.model.specs.Reading.{read_all, fault_number}
 use Rattle.yaml.specs.Puts.{puts}

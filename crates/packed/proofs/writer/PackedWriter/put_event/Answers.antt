@@ -1,4 +1,4 @@
-use Rattle.std.proofs.Common.{◌≡◌, ◌+◌, ◌++◌, length, take, sym, refl, ap, ◌∙◌, arith}
+use Rattle.std.proofs.Common.{◌≡◌, ◌+◌, ◌++◌, length, take, refl, ap, ◌∙◌, arith}
 use Rattle.yaml.specs.Shapes.{ev_of}
 use Rattle.packed.specs.Packed.{size_of, head_of}
 use Rattle.packed.proofs.Storing.{four_puts}

@@ -1,4 +1,4 @@
-use Rattle.std.proofs.Common.{◌≡◌, ◌+◌, ◌-◌, length, take, drop, Some, sym, refl, ap, arith}
+use Rattle.std.proofs.Common.{◌≡◌, ◌+◌, ◌-◌, length, take, drop, Some, sym, refl, ap}
 use Rattle.std.proofs.lemmas.List.{take_rest, length-take-le}
 use Rattle.model.specs.declared.Cause.TheVariants.{NotALine}
 use Rattle.model.specs.Reading.{marked_at, mark_at}

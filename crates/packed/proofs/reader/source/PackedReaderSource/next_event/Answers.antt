@@ -1,4 +1,4 @@
-use Rattle.std.proofs.Common.{◌≡◌, ◌+◌, sym, refl}
+use Rattle.std.proofs.Common.{◌+◌, sym, refl}
 use Rattle.std.proofs.lemmas.List.{take_rest}
 use Rattle.model.specs.Reading.{marked_at}
 use Rattle.std.specs.Option.{option_map}

@@ -1,7 +1,7 @@
-use Rattle.std.proofs.Common.{◌≡◌, ◌+◌, ◌++◌, length, take, sym, ap, ◌∙◌, arith}
+use Rattle.std.proofs.Common.{◌≡◌, ◌+◌, take, ap, ◌∙◌, arith}
 use Rattle.yaml.specs.Shapes.{ev_of}
 use Rattle.yaml.proofs.Takes.{sized, taken_more}
-use Rattle.packed.specs.Packed.{packed_of, size_of}
+use Rattle.packed.specs.Packed.{size_of}
 use Rattle.packed.specs.Writes.{held}
 use Rattle.packed.specs.Lawful.{packed_format}
 use Rattle.packed.proofs.writer.sink.PackedWriterSink.take.Goals as goal
