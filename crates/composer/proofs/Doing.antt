@@ -13,7 +13,7 @@ use Rattle.document.specs.Empty.{empty_node}
 use Rattle.composer.specs.declared.anchor.Anchor.{Anchor}
 use Rattle.composer.specs.declared.frames.Frame.{Frame}
 use Rattle.composer.specs.declared.frames.Frames.{Frames}
-use Rattle.composer.specs.declared.tables.Tables.{Tables}
+use Rattle.composer.specs.declared.stacks.Tables.{Tables}
 use Rattle.composer.specs.Names.{empty_anchor, entry_of, found}
 use Rattle.composer.specs.Opens.{opens, innermost, outer, one_more_child}
 use Rattle.composer.specs.State.{St, Spaces}

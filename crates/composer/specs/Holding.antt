@@ -7,7 +7,7 @@ use Rattle.document.specs.declared.node.Node.{Node}
 use Rattle.document.specs.Empty.{empty_node}
 use Rattle.composer.specs.declared.anchor.Anchor.{Anchor}
 use Rattle.composer.specs.declared.frames.Frame.{Frame}
-use Rattle.composer.specs.declared.tables.Tables.{Tables}
+use Rattle.composer.specs.declared.stacks.Tables.{Tables}
 use Rattle.composer.specs.declared.refusal.Refusal.{Refusal}
 use Rattle.composer.specs.Names.{empty_anchor}
 use Rattle.composer.specs.Opens.{opens}

@@ -3,7 +3,7 @@ use Rattle.std.specs.Prelude.{ℕ, min, List, []}
 use Rattle.document.specs.declared.node.Node.{Node}
 use Rattle.composer.specs.declared.anchor.Anchor.{Anchor}
 use Rattle.composer.specs.declared.frames.Frame.{Frame}
-use Rattle.composer.specs.declared.tables.Spaces.{Spaces as TableSpaces}
+use Rattle.composer.specs.declared.stacks.Spaces.{Spaces as TableSpaces}
 
 -- nodes, placed links and text in order; anchors in order; the children that wait for their collection's end, in order; the open collections, innermost first
 pub record St : Type 0 where

@@ -5,9 +5,9 @@ pub mod anchor;
 pub mod frames;
 pub mod names;
 pub mod refusal;
-pub mod tables;
+pub mod stacks;
 pub mod tags;
 
 pub use anchor::Anchor;
 pub use refusal::{Refusal, refusal_mark, refusal_number};
-pub use tables::{Spaces, Tables};
+pub use stacks::{Spaces, Tables};

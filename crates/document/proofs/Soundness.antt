@@ -5,7 +5,7 @@ use Rattle.std.proofs.lemmas.List.{nil_from_length}
 use Rattle.std.proofs.ByRecursion.{All-map}
 use Rattle.std.proofs.lemmas.List.Sums.{sum_by-cons}
 use Rattle.std.proofs.lemmas.Bool.{and_parts, or_cases, leb-true, eqb-true, eq-eqb, ne_eqb, not-true, cond-true, cond-false}
-use Rattle.std.specs.List.{AllByRecursion as All}
+use Rattle.std.specs.List.{AllByRecursion}
 use Rattle.model.specs.declared.NodeKind.{NodeKind}
 use Rattle.model.specs.declared.NodeKind.TheVariants.{Scalar, Sequence, Mapping}
 use Rattle.model.specs.Events.{zero_free}
@@ -107,7 +107,7 @@ mapping_even v k e =
     (λ a. eqb-true (v.link_count % 2) 0 a)
     (or_cases (not (eqb v.kind 3)) (eqb (v.link_count % 2) 0) e)
 
-all_names : (n : ℕ) (ls : List ℕ) → every (names n) ls ≡ true → All (Names n) ls
+all_names : (n : ℕ) (ls : List ℕ) → every (names n) ls ≡ true → AllByRecursion (Names n) ls
 all_names n [] e = tt
 all_names n (l ∷ ls) e =
     let both = and_parts (names n l) (every (names n) ls) e in
@@ -117,7 +117,7 @@ all_names n (l ∷ ls) e =
 -- a vertex with its parts put together
 vertex :
     (n : ℕ) (links text : List ℕ) (v : Node) (k : NodeKind) → kind_of v.kind ≡ k → v.style ≤ most_style_of k → TagFacts text v
-    → length (value_of text v) ≤ 4096 → All (Names n) (links_of links v) → ByKind k (value_of text v) (links_of links v) → IsSoundVertex n (vertex_of links text v)
+    → length (value_of text v) ≤ 4096 → AllByRecursion (Names n) (links_of links v) → ByKind k (value_of text v) (links_of links v) → IsSoundVertex n (vertex_of links text v)
 vertex n links text v k e style tag short named by =
     record {
       style = subst (λ x. v.style ≤ most_style_of x) (sym e) style;
@@ -140,7 +140,7 @@ sound_vertex n links text v r =
     (λ k.
     let none = scalar_links n links v k.kind r.linked in
     vertex n links text v Scalar (ap kind_of k.kind) k.style tag (scalar_value text v k.kind r.value)
-    (subst (All (Names n)) (sym none) tt) none)
+    (subst (AllByRecursion (Names n)) (sym none) tt) none)
     (⊎_elim
     (λ k.
     let other : v.kind ≡ 1 → ⊥ = λ is. let is2 = k.kind in omega arith in
@@ -159,7 +159,7 @@ sound_vertex n links text v r =
 -- every vertex
 sound_vertices :
     (n : ℕ) (links text : List ℕ) (vs : List Node) → every kind_right vs ≡ true → every (tag_right text) vs ≡ true → every (value_right text) vs ≡ true
-    → every (links_right n links) vs ≡ true → All (λ v. IsSoundVertex n (vertex_of links text v)) vs
+    → every (links_right n links) vs ≡ true → AllByRecursion (λ v. IsSoundVertex n (vertex_of links text v)) vs
 sound_vertices n links text [] a b d e = tt
 sound_vertices n links text (v ∷ vs) a b d e =
     let k = and_parts (kind_right v) (every kind_right vs) a in
@@ -206,7 +206,7 @@ sound_book d =
     record {
       few = omega arith;
       each =
-          subst (λ n. All (IsSoundVertex n) (book_of d).nodes) (sym long)
+          subst (λ n. AllByRecursion (IsSoundVertex n) (book_of d).nodes) (sym long)
           (All-map (IsSoundVertex (length vs)) (vertex_of links text) vs (sound_vertices (length vs) links text vs d.kinds d.tags d.values d.linked));
       few_links = omega arith;
       few_bytes = omega arith;

@@ -1,6 +1,6 @@
 -- What holds of the graph of every Document.
 use Rattle.std.specs.Prelude.{◌≡◌, ℕ, ◌+◌, ◌%◌, ◌≤◌, true, false, List, [], length, sum_by}
-use Rattle.std.specs.List.{AllByRecursion as All}
+use Rattle.std.specs.List.{AllByRecursion}
 use Rattle.model.specs.declared.NodeKind.{NodeKind}
 use Rattle.model.specs.declared.NodeKind.TheVariants.{Scalar, Sequence, Mapping}
 use Rattle.model.specs.Events.{zero_free}
@@ -30,7 +30,7 @@ pub record IsSoundVertex (n : ℕ) (x : Vertex) : Type 0 where
   pub tag_zero_free : zero_free x.look.tag ≡ true
   pub tag_not_bang : bang x.look.tag ≡ false
   pub value_short : length x.look.value ≤ 4096
-  pub links_name : All (Names n) x.links
+  pub links_name : AllByRecursion (Names n) x.links
   pub by_kind : ByKind x.look.kind x.look.value x.links
 
 abbrev pub link_length : Vertex → ℕ
@@ -41,6 +41,6 @@ text_bytes x = length x.look.tag + length x.look.value
 
 pub record SoundBook (b : Book) : Type 0 where
   pub few : length b.nodes ≤ 4096
-  pub each : All (IsSoundVertex (length b.nodes)) b.nodes
+  pub each : AllByRecursion (IsSoundVertex (length b.nodes)) b.nodes
   pub few_links : sum_by link_length b.nodes ≤ 16384
   pub few_bytes : sum_by text_bytes b.nodes ≤ 65536

@@ -7,7 +7,7 @@ use Rattle.model.specs.Events.{Ev, allowed}
 use Rattle.model.specs.Reading.{Marked}
 use Rattle.yaml.specs.declared.event.Head.{Head}
 use Rattle.yaml.specs.Flow.{Flow, Came}
-use Rattle.composer.specs.declared.tables.Tables.{Tables}
+use Rattle.composer.specs.declared.stacks.Tables.{Tables}
 use Rattle.composer.specs.declared.refusal.Refusal.{Refusal}
 use Rattle.composer.specs.State.{St, Spaces, blank}
 use Rattle.composer.specs.Steps.{taking}

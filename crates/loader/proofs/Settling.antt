@@ -5,7 +5,7 @@ use Rattle.tables.specs.Stacks.{contents, room_of, Clean}
 use Rattle.tables.proofs.Clean.{clean_table}
 use Rattle.yaml.specs.Flow.{Flow}
 use Rattle.document.specs.Empty.{empty_node}
-use Rattle.composer.specs.declared.tables.Tables.{Tables}
+use Rattle.composer.specs.declared.stacks.Tables.{Tables}
 use Rattle.composer.specs.declared.refusal.Refusal.{Refusal}
 use Rattle.composer.specs.Names.{empty_anchor}
 use Rattle.composer.specs.State.{Lengths, Spaces, spaces_for}

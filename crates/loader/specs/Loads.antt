@@ -6,7 +6,7 @@ use Rattle.yaml.specs.Shapes.{head_of}
 use Rattle.yaml.specs.Flow.{Flow, Came}
 use Rattle.tables.specs.Stacks.{room_of}
 use Rattle.document.specs.Empty.{empty_node}
-use Rattle.composer.specs.declared.tables.Tables.{Tables}
+use Rattle.composer.specs.declared.stacks.Tables.{Tables}
 use Rattle.composer.specs.declared.refusal.Refusal.{Refusal}
 use Rattle.composer.specs.declared.refusal.Refusal.TheVariants.{EarlierRefused}
 use Rattle.composer.specs.Names.{empty_anchor}

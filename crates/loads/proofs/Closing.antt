@@ -1,6 +1,6 @@
 -- The end of a collection: its children become its links.
 use Rattle.std.proofs.Common.{◌≡◌, ℕ, zero, suc, ◌-◌, ◌%◌, ◌≤◌, Bool, true, false, List, [], ◌∷◌, ◌++◌, map, length, take, set, Some, sym, refl, ap, ◌∙◌, subst, ap₂, arith}
-use Rattle.std.specs.List.{AllByRecursion as All}
+use Rattle.std.specs.List.{AllByRecursion}
 use Rattle.std.proofs.lemmas.List.{append-nil, length-append, length-set, map-set, drop_at, take_all}
 use Rattle.std.proofs.ByRecursion.{All-set, All-weaker}
 use Rattle.model.specs.declared.Mark.{Mark}
@@ -26,7 +26,7 @@ nth_map f [] i x h = let z : ◌≡◌ {A = ℕ} 0 1 = cc in absurd (omega (arit
 nth_map f (y ∷ xs) zero x h = let e : y ≡ x = cc in ap (λ q. Some (f q)) e
 nth_map f (y ∷ xs) (suc i) x h = nth_map f xs i x h
 
-pub nth_all : {X : Type 0} (P : X → Type 0) (xs : List X) (i : ℕ) (x : X) → nth xs i ≡ Some x → All P xs → P x
+pub nth_all : {X : Type 0} (P : X → Type 0) (xs : List X) (i : ℕ) (x : X) → nth xs i ≡ Some x → AllByRecursion P xs → P x
 nth_all P [] i x h all = let z : ◌≡◌ {A = ℕ} 0 1 = cc in absurd (omega (arith, z))
 nth_all P (y ∷ xs) zero x h all = let e : y ≡ x = cc in subst P e all.0
 nth_all P (y ∷ xs) (suc i) x h all = nth_all P xs i x h all.1

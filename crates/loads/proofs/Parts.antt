@@ -1,6 +1,6 @@
 -- Parts of tables as the tables grow, and what a node stands for in them.
 use Rattle.std.proofs.Common.{◌≡◌, ℕ, zero, suc, ◌+◌, ◌-◌, ◌≤◌, List, [], ◌∷◌, ◌++◌, length, take, drop, set, Some, sum_by, sym, refl, ap, ◌∙◌, ap₂, arith}
-use Rattle.std.specs.List.{AllByRecursion as All}
+use Rattle.std.specs.List.{AllByRecursion}
 use Rattle.std.proofs.lemmas.List.{append_assoc, length-append, length-drop, length_push, drop-append-le, take-append-le, drop_at, take_at, take_all}
 use Rattle.std.proofs.lemmas.List.Sums.{sum_by-cons}
 use Rattle.model.specs.declared.NodeKind.{NodeKind}
@@ -39,7 +39,7 @@ vertex_grow links ls text ts v p = λ i. record {
   links = part_grow links ls v.first_link v.link_count p.linked i;
 }
 
-pub graph_grow : (nodes : List Node) (links ls text ts : List ℕ) → All (Placed links text) nodes → graph_of nodes (links ++ ls) (text ++ ts) ≡ graph_of nodes links text
+pub graph_grow : (nodes : List Node) (links ls text ts : List ℕ) → AllByRecursion (Placed links text) nodes → graph_of nodes (links ++ ls) (text ++ ts) ≡ graph_of nodes links text
 graph_grow [] links ls text ts all = refl
 graph_grow (v ∷ vs) links ls text ts all = ap₂ ◌∷◌ (vertex_grow links ls text ts v all.0) (graph_grow vs links ls text ts all.1)
 

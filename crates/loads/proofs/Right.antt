@@ -1,6 +1,6 @@
 -- Every node that is made is right.
 use Rattle.std.proofs.Common.{◌≡◌, ℕ, ◌+◌, ◌%◌, ◌≤◌, Bool, true, false, cond, not, ◌&&◌, ◌||◌, eqb, leb, List, [], ◌∷◌, ◌++◌, length, codes, refl, ap, ◌∙◌, subst, inl, inr, arith}
-use Rattle.std.specs.List.{AllByRecursion as All}
+use Rattle.std.specs.List.{AllByRecursion}
 use Rattle.std.proofs.lemmas.Bool.{leb-true, le-leb, and_parts, and_from, or_left, not_from_false, cases_Bool, both_ways}
 use Rattle.model.specs.declared.NodeKind.{NodeKind}
 use Rattle.model.specs.declared.NodeKind.TheVariants.{Scalar, Sequence, Mapping}
@@ -52,7 +52,7 @@ right_grow n m links links' text text' v h t l r = record {
   named = ap (every (names m)) l ∙ names_grow n m (links_of links v) h r.named;
 }
 
-pub all_grow : {P Q R : Node → Type 0} → ((v : Node) → P v → Q v → R v) → (vs : List Node) → All P vs → All Q vs → All R vs
+pub all_grow : {P Q R : Node → Type 0} → ((v : Node) → P v → Q v → R v) → (vs : List Node) → AllByRecursion P vs → AllByRecursion Q vs → AllByRecursion R vs
 all_grow f [] p q = tt
 all_grow f (v ∷ vs) p q = (f v p.0 q.0, all_grow f vs p.1 q.1)
 
@@ -122,7 +122,7 @@ new_right n k e links text start end ok is =
 
 -- all that the tables hold is right
 pub record Right (s : St) : Type 0 where
-  pub nodes : All (NodeRight (length s.nodes) s.links s.text) s.nodes
+  pub nodes : AllByRecursion (NodeRight (length s.nodes) s.links s.text) s.nodes
   pub waits : every (names (length s.nodes)) s.waiting ≡ true
 
 -- the answers
@@ -148,11 +148,11 @@ tag_of_lem v n links text r p =
     (and_from (lies text v.tag_start v.tag_length) _ (le-leb (v.tag_start + v.tag_length) (length text) p.tag)
     (and_from (zero_free (tag_of text v)) (not (bang (tag_of text v))) r.tag_free (not_from_false (bang (tag_of text v)) r.tag_told))))
 
-every_all : (q : Node → Bool) {P Q : Node → Type 0} → ((v : Node) → P v → Q v → q v ≡ true) → (vs : List Node) → All P vs → All Q vs → every q vs ≡ true
+every_all : (q : Node → Bool) {P Q : Node → Type 0} → ((v : Node) → P v → Q v → q v ≡ true) → (vs : List Node) → AllByRecursion P vs → AllByRecursion Q vs → every q vs ≡ true
 every_all q f [] a b = refl
 every_all q f (v ∷ vs) a b = and_from (q v) (every q vs) (f v a.0 b.0) (every_all q f vs a.1 b.1)
 
-pub all_right : (n : ℕ) (vs : List Node) (links text : List ℕ) → All (NodeRight n links text) vs → All (Placed links text) vs
+pub all_right : (n : ℕ) (vs : List Node) (links text : List ℕ) → AllByRecursion (NodeRight n links text) vs → AllByRecursion (Placed links text) vs
     → (every kind_right vs ≡ true) × (every (tag_right text) vs ≡ true) × (every (value_right text) vs ≡ true) × (every (links_right n links) vs ≡ true)
 all_right n vs links text a b = (
   every_all kind_right (λ v r p. r.kind) vs a b,

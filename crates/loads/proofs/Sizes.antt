@@ -1,6 +1,6 @@
 -- How much the tables hold, and how much there is in what they stand for.
 use Rattle.std.proofs.Common.{◌≡◌, ℕ, suc, ◌+◌, ◌-◌, ◌≤◌, List, [], ◌∷◌, ◌++◌, length, drop, sum_by, refl, ap, ◌∙◌, arith}
-use Rattle.std.specs.List.{AllByRecursion as All}
+use Rattle.std.specs.List.{AllByRecursion}
 use Rattle.std.proofs.lemmas.List.{length-map, length-take, length-drop}
 use Rattle.std.proofs.lemmas.List.Sums.{sum_by-cons}
 use Rattle.model.specs.Graph.{Look, Vertex}
@@ -19,7 +19,7 @@ use Rattle.loads.proofs.Parts.{last_length}
 part_length : (xs : List ℕ) (place n : ℕ) → place + n ≤ length xs → length (part xs place n) ≡ n
 part_length xs place n h = length-take n (drop place xs) ∙ omega (arith, length-drop place xs)
 
-text_size : (nodes : List Node) (links text : List ℕ) → All (Placed links text) nodes → all_text (graph_of nodes links text) ≡ sum_by text_length nodes
+text_size : (nodes : List Node) (links text : List ℕ) → AllByRecursion (Placed links text) nodes → all_text (graph_of nodes links text) ≡ sum_by text_length nodes
 text_size [] links text all = refl
 text_size (v ∷ nodes) links text all =
     omega (
@@ -30,7 +30,7 @@ text_size (v ∷ nodes) links text all =
       part_length text v.value_start v.value_length all.0.value,
     )
 
-links_size : (nodes : List Node) (links text : List ℕ) → All (Placed links text) nodes → all_links (graph_of nodes links text) ≡ sum_by link_count nodes
+links_size : (nodes : List Node) (links text : List ℕ) → AllByRecursion (Placed links text) nodes → all_links (graph_of nodes links text) ≡ sum_by link_count nodes
 links_size [] links text all = refl
 links_size (v ∷ nodes) links text all =
     omega (arith, links_size nodes links text all.1, sum_by-cons link_count v nodes, part_length links v.first_link v.link_count all.0.linked)

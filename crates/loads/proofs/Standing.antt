@@ -1,6 +1,6 @@
 -- What is loaded stands as a document.
 use Rattle.std.proofs.Common.{◌≡◌, ℕ, zero, suc, ◌+◌, ◌-◌, ◌%◌, ◌≤◌, Bool, true, false, leb, List, [], ◌∷◌, ◌++◌, map, length, take, drop, set, Some, None, Ok, Option, sym, refl, ap, ◌∙◌, subst, arith}
-use Rattle.std.specs.List.{AllByRecursion as All}
+use Rattle.std.specs.List.{AllByRecursion}
 use Rattle.std.proofs.lemmas.List.{length-append, length-set, drop_at, take_at, take_all}
 use Rattle.std.proofs.ByRecursion.{All-push, All-set}
 use Rattle.std.proofs.lemmas.Bool.{le-leb, eq-eqb, and_parts, and_from}
@@ -104,12 +104,12 @@ right_closing mapping (f ∷ fs) m s t is kind turn tidy r h =
       shape = shape_linked f.mapping v (length s.links) f.children m.end o.0.kind even;
       named = ap (every (names n)) new ∙ every_drop (names n) (length s.waiting - f.children) s.waiting r.waits;
     } in
-    let all : All (NodeRight n (s.links ++ ks) s.text) (set s.nodes i w)
+    let all : AllByRecursion (NodeRight n (s.links ++ ks) s.text) (set s.nodes i w)
     = All-set (NodeRight n (s.links ++ ks) s.text) s.nodes i w here
     (all_grow (λ u pl g. right_grow n n s.links (s.links ++ ks) s.text s.text u (omega arith) refl (part_grow s.links ks u.first_link u.link_count pl.linked) g) s.nodes tidy.placed r.nodes) in
     let same : n ≡ length (set s.nodes i w) = sym (length-set s.nodes i w) in
     rw (q ∙ closed_after s f fs m.end m.event is tidy k even) (record {
-      nodes = subst (λ j. All (NodeRight j (s.links ++ ks) s.text) (set s.nodes i w)) same all;
+      nodes = subst (λ j. AllByRecursion (NodeRight j (s.links ++ ks) s.text) (set s.nodes i w)) same all;
       waits = subst (λ j. every (names j) (before_last f.children s.waiting) ≡ true) same (every_take (names n) (length s.waiting - f.children) s.waiting r.waits);
     })
 
@@ -170,9 +170,9 @@ stands sp s n vs ls ts limit l is =
     let text = take_past 65536 s.text ts (omega (arith, w.text, limit.text)) in
     let ls' : List ℕ = take (16384 - length s.links) ls in
     let ts' : List ℕ = take (65536 - length s.text) ts in
-    let long : All (NodeRight (length s.nodes) (s.links ++ ls') (s.text ++ ts')) s.nodes
+    let long : AllByRecursion (NodeRight (length s.nodes) (s.links ++ ls') (s.text ++ ts')) s.nodes
     = all_grow (λ v p r. right_longer (length s.nodes) s.links ls' s.text ts' v p r) s.nodes l.tidy.placed l.right.nodes in
-    let placed : All (Placed (s.links ++ ls') (s.text ++ ts')) s.nodes
+    let placed : AllByRecursion (Placed (s.links ++ ls') (s.text ++ ts')) s.nodes
     = all_grow (λ v p r. placed_grow s.links (s.links ++ ls') s.text (s.text ++ ts') (omega (arith, length-append s.links ls')) (omega (arith, length-append s.text ts')) v p) s.nodes l.tidy.placed l.right.nodes in
     let a = all_right (length s.nodes) s.nodes (s.links ++ ls') (s.text ++ ts') long placed in
     let fit : AllFit s.nodes (s.links ++ ls') (s.text ++ ts') = record {

@@ -2,7 +2,7 @@
 use Rattle.yaml.specs.Flow.{Flow}
 use Rattle.yaml.specs.Flow.{Sound as Allowed}
 use Rattle.document.specs.Check.{handed}
-use Rattle.composer.specs.declared.tables.Tables.{Tables}
+use Rattle.composer.specs.declared.stacks.Tables.{Tables}
 use Rattle.composer.specs.Holding.{lengths_of}
 use Rattle.loader.specs.declared.answer.Loaded.{Loaded}
 use Rattle.loader.specs.declared.answer.Answer.TheVariants.{Loaded as LoadedAnswer}

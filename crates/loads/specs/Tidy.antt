@@ -1,6 +1,6 @@
 -- What the tables stand for while a document is composed, and what is always so of them.
 use Rattle.std.specs.Prelude.{◌≡◌, ℕ, suc, ◌+◌, ◌-◌, ◌<◌, ◌≤◌, Bool, true, false, List, [], ◌∷◌, length, take, drop, Some}
-use Rattle.std.specs.List.{AllByRecursion as All}
+use Rattle.std.specs.List.{AllByRecursion}
 use Rattle.model.specs.declared.NodeKind.{NodeKind}
 use Rattle.model.specs.declared.NodeKind.TheVariants.{Sequence, Mapping}
 use Rattle.model.specs.Graph.{nth}
@@ -76,7 +76,7 @@ AllOpen nodes n (f ∷ fs) waiting = (o : OpenNode nodes n f) × (f.children ≤
 -- the tables hold a document that is being composed: every part of a node lies in its table, texts and links without gaps; the open collections are collections;
 -- an anchor names one node, which is there
 pub record Tidy (s : St) : Type 0 where
-  pub placed : All (Placed s.links s.text) s.nodes
+  pub placed : AllByRecursion (Placed s.links s.text) s.nodes
   pub opens : AllOpen s.nodes (length s.nodes) s.frames s.waiting
   pub names : (a : List ℕ) → found s.anchors a ≡ named a (names_of s.anchors)
   pub known : (a : List ℕ) (v : ℕ) → found s.anchors a ≡ Some v → (1 ≤ v) × (v ≤ length s.nodes)

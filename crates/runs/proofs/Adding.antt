@@ -1,6 +1,6 @@
 -- Over whole runs: the reported events add up to the length of the sink's list, and each call reports and fits as it should.
 use Rattle.std.proofs.Common.{◌≡◌, ℕ, ◌+◌, List, [], ◌∷◌, ◌++◌, length, sym, ap, subst, arith}
-use Rattle.std.specs.List.{AllByRecursion as All}
+use Rattle.std.specs.List.{AllByRecursion}
 use Rattle.std.proofs.lemmas.List.{length-append}
 use Rattle.std.proofs.ByRecursion.{All-push}
 use Rattle.yaml.specs.declared.sink.Refusal.TheVariants.{NotAllowed, NoSpace}
@@ -31,15 +31,15 @@ run_length f (none e g) = omega (arith, ap reports e, ap (λ x. length x.taken) 
 run_length {weight} f (more {turns = turns} {s = s} {t = t} c a r sound k e) =
     omega (arith, ap reports e, reports_push turns (turn c s a t), called_length weight c s a t k, run_length f r)
 
-run_counts : {weight : Ev → ℕ} {start : State} {turns : List Turn} {end : State} → Run weight start turns end → All Counts turns
-run_counts (none e g) = subst (All Counts) (sym e) tt
+run_counts : {weight : Ev → ℕ} {start : State} {turns : List Turn} {end : State} → Run weight start turns end → AllByRecursion Counts turns
+run_counts (none e g) = subst (AllByRecursion Counts) (sym e) tt
 run_counts {weight} (more {turns = turns} {s = s} {t = t} c a r sound k e) =
-    subst (All Counts) (sym e) (All-push Counts turns (turn c s a t) (run_counts r) (counts_called weight c s a t sound k))
+    subst (AllByRecursion Counts) (sym e) (All-push Counts turns (turn c s a t) (run_counts r) (counts_called weight c s a t sound k))
 
 pub run_counted : {weight : Ev → ℕ} {start : State} {turns : List Turn} {end : State} → Fresh start → Run weight start turns end → Counted turns end
 run_counted f r = record { all = run_length f r; each = run_counts r }
 
-pub run_fits : {weight : Ev → ℕ} {start : State} {turns : List Turn} {end : State} → Run weight start turns end → All (Fits weight) turns
-run_fits {weight} (none e g) = subst (All (Fits weight)) (sym e) tt
+pub run_fits : {weight : Ev → ℕ} {start : State} {turns : List Turn} {end : State} → Run weight start turns end → AllByRecursion (Fits weight) turns
+run_fits {weight} (none e g) = subst (AllByRecursion (Fits weight)) (sym e) tt
 run_fits {weight} (more {turns = turns} {s = s} {t = t} c a r sound k e) =
-    subst (All (Fits weight)) (sym e) (All-push (Fits weight) turns (turn c s a t) (run_fits r) (fits_called weight c s a t k))
+    subst (AllByRecursion (Fits weight)) (sym e) (All-push (Fits weight) turns (turn c s a t) (run_fits r) (fits_called weight c s a t k))

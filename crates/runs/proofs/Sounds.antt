@@ -1,6 +1,6 @@
 -- A Document's graph is sound in every sense that walking, serializing and composing ask for.
 use Rattle.std.proofs.Common.{◌≡◌, ℕ, zero, suc, ◌%◌, ◌≤◌, true, false, eqb, List, [], ◌∷◌, length, Some, sym, refl, ap, subst, inl, inr, arith}
-use Rattle.std.specs.List.{AllByRecursion as All}
+use Rattle.std.specs.List.{AllByRecursion}
 use Rattle.std.proofs.lemmas.Bool.{or_cases, eqb-true, both_ways}
 use Rattle.model.specs.declared.NodeKind.{NodeKind}
 use Rattle.model.specs.declared.NodeKind.TheVariants.{Scalar, Sequence, Mapping}
@@ -14,16 +14,16 @@ use Rattle.serial.specs.Limits.{LooksWithin}
 use Rattle.document.specs.Questions.{bang}
 use Rattle.document.specs.Sound.{most_style_of, Names, ByKind, IsSoundVertex, SoundBook}
 
-pub all_nth : {X : Type 0} (P : X → Type 0) (xs : List X) (i : ℕ) (x : X) → All P xs → nth xs i ≡ Some x → P x
+pub all_nth : {X : Type 0} (P : X → Type 0) (xs : List X) (i : ℕ) (x : X) → AllByRecursion P xs → nth xs i ≡ Some x → P x
 all_nth P [] i x a e = let z : ◌≡◌ {A = ℕ} 0 1 = cc in absurd (omega arith)
 all_nth P (y ∷ ys) zero x a e = let same : y ≡ x = cc in subst P same a.0
 all_nth P (y ∷ ys) (suc i) x a e = all_nth P ys i x a.1 e
 
-pub all_numbered : {X : Type 0} (P : X → Type 0) (xs : List X) (v : ℕ) (x : X) → All P xs → numbered xs v ≡ Some x → P x
+pub all_numbered : {X : Type 0} (P : X → Type 0) (xs : List X) (v : ℕ) (x : X) → AllByRecursion P xs → numbered xs v ≡ Some x → P x
 all_numbered P xs zero x a e = let z : ◌≡◌ {A = ℕ} 0 1 = cc in absurd (omega arith)
 all_numbered P xs (suc i) x a e = all_nth P xs i x a e
 
-all_among : (P : ℕ → Type 0) (w : ℕ) (xs : List ℕ) → All P xs → among w xs ≡ true → P w
+all_among : (P : ℕ → Type 0) (w : ℕ) (xs : List ℕ) → AllByRecursion P xs → among w xs ≡ true → P w
 all_among P w [] a e = absurd (both_ways false refl e)
 all_among P w (y ∷ ys) a e = elim (or_cases (eqb w y) (among w ys) e) [
   | inl q ↦ subst P (sym (eqb-true w y q)) a.0

@@ -1,6 +1,6 @@
 -- What the calls of a run report, and when they are refused for lack of space.
 use Rattle.std.specs.Prelude.{◌≡◌, ℕ, ◌+◌, ◌<◌, Bool, true, false, cond, List, [], ◌∷◌, ◌++◌, length}
-use Rattle.std.specs.List.{AllByRecursion as All}
+use Rattle.std.specs.List.{AllByRecursion}
 use Rattle.model.specs.Events.{Ev}
 use Rattle.model.specs.Graph.{Vertex}
 use Rattle.serial.specs.Walks.{TellsLed, sum_where, collection_count, link_count}
@@ -41,4 +41,4 @@ pub record Fits (weight : Ev → ℕ) (u : Turn) : Type 0 where
 -- what is counted in a run: the reported events, added up, are the length of the sink's list
 pub record Counted (turns : List Turn) (end : State) : Type 0 where
   pub all : reports turns ≡ length end.taken
-  pub each : All Counts turns
+  pub each : AllByRecursion Counts turns

@@ -1,6 +1,6 @@
 -- The law over whole runs of a writer.
 use Rattle.std.specs.Prelude.{ℕ, List}
-use Rattle.std.specs.List.{AllByRecursion as All}
+use Rattle.std.specs.List.{AllByRecursion}
 use Rattle.model.specs.Events.{Ev}
 use Rattle.runs.specs.Writer.{State}
 use Rattle.runs.specs.Runs.{Turn, Fresh, Run, written}
@@ -11,7 +11,7 @@ use Rattle.runs.specs.ReadBack.{ReadsBack}
 -- and what the sink took reads back as the documents of the accepted dumps that are not empty, in order.
 pub record Lawful (weight : Ev → ℕ) (turns : List Turn) (end : State) : Type 0 where
   pub counted : Counted turns end
-  pub fits : All (Fits weight) turns
+  pub fits : AllByRecursion (Fits weight) turns
   pub reads_back : ReadsBack end.taken (written turns)
 
 -- so after every run from there

@@ -1,6 +1,6 @@
 -- The graph of a Document is sound, in the words of walks and of serializing.
 use Rattle.std.proofs.Common.{◌≡◌, ℕ, zero, suc, ◌+◌, ◌%◌, ◌≤◌, true, false, eqb, List, [], ◌∷◌, length, Some, sum_by, refl, ap, ◌∙◌, subst, inl, inr, arith}
-use Rattle.std.specs.List.{AllByRecursion as All}
+use Rattle.std.specs.List.{AllByRecursion}
 use Rattle.std.proofs.lemmas.List.Sums.{sum_by-cons}
 use Rattle.std.proofs.lemmas.Bool.{or_cases, eqb-true}
 use Rattle.model.specs.declared.NodeKind.{NodeKind}
@@ -13,16 +13,16 @@ use Rattle.serial.specs.Walks.{SoundGraph, sum_all, link_count, weight}
 use Rattle.serial.specs.RoundTrip.{SoundVertex, Sound}
 use Rattle.serial.proofs.Counts.{weight_total}
 
-all_nth : {X : Type 0} (P : X → Type 0) (xs : List X) (i : ℕ) (x : X) → All P xs → nth xs i ≡ Some x → P x
+all_nth : {X : Type 0} (P : X → Type 0) (xs : List X) (i : ℕ) (x : X) → AllByRecursion P xs → nth xs i ≡ Some x → P x
 all_nth P [] i x all e = let z : ◌≡◌ {A = ℕ} 0 1 = cc in absurd (omega arith)
 all_nth P (y ∷ ys) zero x all e = let same : y ≡ x = cc in subst P same all.0
 all_nth P (y ∷ ys) (suc i) x all e = all_nth P ys i x all.1 e
 
-pub all_numbered : {X : Type 0} (P : X → Type 0) (xs : List X) (v : ℕ) (x : X) → All P xs → numbered xs v ≡ Some x → P x
+pub all_numbered : {X : Type 0} (P : X → Type 0) (xs : List X) (v : ℕ) (x : X) → AllByRecursion P xs → numbered xs v ≡ Some x → P x
 all_numbered P xs zero x all e = let z : ◌≡◌ {A = ℕ} 0 1 = cc in absurd (omega arith)
 all_numbered P xs (suc i) x all e = all_nth P xs i x all e
 
-all_among : (n w : ℕ) (xs : List ℕ) → All (Names n) xs → among w xs ≡ true → (1 ≤ w) × (w ≤ n)
+all_among : (n w : ℕ) (xs : List ℕ) → AllByRecursion (Names n) xs → among w xs ≡ true → (1 ≤ w) × (w ≤ n)
 all_among n w [] all e = let z : ◌≡◌ {A = ℕ} 0 1 = cc in absurd (omega arith)
 all_among n w (x ∷ xs) all e = elim (or_cases (eqb w x) (among w xs) e) [
   | inl here ↦ (omega (arith, eqb-true w x here, all.0), omega (arith, eqb-true w x here, all.0))

@@ -1,7 +1,7 @@
 use Rattle.std.proofs.Common.{sym, ap, ◌∙◌, arith}
 use Rattle.composer.specs.Names.{found, entry_of}
 use Rattle.composer.proofs.Doing.{registered}
-use Rattle.composer.proofs.tables.Tables.register_anchor.Goals as goal
+use Rattle.composer.proofs.stacks.Tables.register_anchor.Goals as goal
 
 pub returns : goal.returns
 returns c =

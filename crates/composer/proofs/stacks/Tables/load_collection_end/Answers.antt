@@ -3,7 +3,7 @@ use Rattle.std.proofs.lemmas.List.{take_rest, length-drop}
 use Rattle.tables.specs.Stacks.{contents, room_of, Grown}
 use Rattle.composer.proofs.Doing.{closed, top_children_lem, surely_grown}
 use Rattle.composer.specs.Opens.{opens}
-use Rattle.composer.proofs.tables.Tables.load_collection_end.Goals as goal
+use Rattle.composer.proofs.stacks.Tables.load_collection_end.Goals as goal
 
 pub returns : goal.returns
 returns c =

@@ -3,7 +3,7 @@ use Rattle.tables.specs.Stacks.{contents}
 use Rattle.document.specs.Empty.{empty_node}
 use Rattle.composer.specs.Steps.{linked, linked_at}
 use Rattle.composer.proofs.Doing.{set_there, set_clean, set_over}
-use Rattle.composer.proofs.tables.nodes.link_node.Goals as goal
+use Rattle.composer.proofs.stacks.nodes.link_node.Goals as goal
 
 pub returns-in-Some : goal.returns-in-Some
 returns-in-Some c =

@@ -1,6 +1,6 @@
 use Rattle.std.proofs.Common.{arith}
 use Rattle.composer.proofs.Doing.{added}
-use Rattle.composer.proofs.tables.Tables.load_node_add.Goals as goal
+use Rattle.composer.proofs.stacks.Tables.load_node_add.Goals as goal
 
 pub returns : goal.returns
 returns c =

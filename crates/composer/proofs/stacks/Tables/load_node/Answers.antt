@@ -3,7 +3,7 @@ use Rattle.std.proofs.lemmas.List.{length-append}
 use Rattle.tables.specs.Stacks.{contents}
 use Rattle.composer.specs.Steps.{value_place}
 use Rattle.composer.proofs.Doing.{noded}
-use Rattle.composer.proofs.tables.Tables.load_node.Goals as goal
+use Rattle.composer.proofs.stacks.Tables.load_node.Goals as goal
 
 -- both texts fit, so the second does
 pub returns-then-not-extend-2 : goal.returns-then-not-extend-2
