@@ -2,12 +2,12 @@
 use crate::input::{Form, count_events, form_of, read_input};
 use crate::refusing::load_line;
 use crate::room::full_room;
-use anyhow::anyhow;
 use composer::Tables;
 use document::Node;
 use lines::LineReader;
 use loader::{Answer, Loaded, Loader};
 use packed::PackedReader;
+use std::process::ExitCode;
 use yaml::Source;
 
 // The most collections that are open at once, from where nodes begin and end in the input.
@@ -31,7 +31,11 @@ fn deepest(open_ends: &mut Vec<u64>, nodes: &[Node]) -> anyhow::Result<usize> {
 }
 
 // Tells a row for each document up to the stream's end; a refusal is told in a line.
-fn check_stream<S: Source + Drop>(rt: &HostRuntime, source: S, input: &[u8]) -> anyhow::Result<()> {
+fn check_stream<S: Source + Drop>(
+    rt: &HostRuntime,
+    source: S,
+    input: &[u8],
+) -> anyhow::Result<ExitCode> {
     let heap = rt.alloc();
     let mut room = full_room(heap)?;
     let mut tables = Tables::new(
@@ -49,15 +53,15 @@ fn check_stream<S: Source + Drop>(rt: &HostRuntime, source: S, input: &[u8]) -> 
             Answer::Ended => {
                 let documents = document - 1;
                 println!(rt; "the stream ends after {documents} documents")?;
-                return Ok(());
+                return Ok(ExitCode::SUCCESS);
             }
             Answer::Refused(refusal) => {
                 rt.eprint(load_line(heap, refusal, input.len(), count_events(input))?)?;
-                return Err(anyhow!("refused"));
+                return Ok(ExitCode::FAILURE);
             }
         }
     }
-    Ok(())
+    Ok(ExitCode::SUCCESS)
 }
 
 // One row. Every node but the root is the child of one collection, so the links beyond these are aliases.
@@ -82,7 +86,7 @@ fn tell_row(
 }
 
 // Reads an input in either form and checks it.
-pub fn run_check(rt: &HostRuntime, file: Option<&str>) -> anyhow::Result<()> {
+pub fn run_check(rt: &HostRuntime, file: Option<&str>) -> anyhow::Result<ExitCode> {
     let input = read_input(rt, file)?;
     let bytes = input.as_slice();
     match form_of(bytes) {

@@ -1,7 +1,6 @@
 // The command `convert`.
 use crate::input::{Form, form_name, form_of, read_input};
 use crate::words::{cause_words, refusal_words};
-use anyhow::anyhow;
 use convert::survey::look_over;
 use convert::{End, Stop, Survey, hand_all};
 use lines::{LineReader, LineWriter};
@@ -9,6 +8,7 @@ use packed::{PackedReader, PackedWriter};
 use std::alloc::{AllocError, Global};
 use std::fs;
 use std::io::Write;
+use std::process::ExitCode;
 use yaml::event::cause_number;
 use yaml::sink::refusal_number;
 use yaml::{Fault, Refusal, Source};
@@ -151,7 +151,7 @@ pub fn run_convert(
     to: Form,
     out: Option<&str>,
     file: Option<&str>,
-) -> anyhow::Result<()> {
+) -> anyhow::Result<ExitCode> {
     let heap = rt.alloc();
     let input = read_input(rt, file)?;
     let from = form_of(input.as_slice());
@@ -159,7 +159,7 @@ pub fn run_convert(
         Ok(output) => output,
         Err(failure) => {
             rt.eprint(failure_line(heap, failure)?)?;
-            return Err(anyhow!("refused"));
+            return Ok(ExitCode::FAILURE);
         }
     };
     let told = summary(heap, from, to, input.len(), &output)?;
@@ -173,5 +173,5 @@ pub fn run_convert(
             rt.eprint(told)?;
         }
     }
-    Ok(())
+    Ok(ExitCode::SUCCESS)
 }

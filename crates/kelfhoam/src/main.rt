@@ -11,16 +11,17 @@ mod room;
 mod showing;
 mod words;
 
-use anyhow::anyhow;
 use checking::run_check;
 use command::{Command, USAGE, parse};
 use converting::run_convert;
 use redumping::run_redump;
 use showing::run_show;
 use std::env;
+use std::process::ExitCode;
 
-// Work that was refused, or a command line that is none, ends the program with status 1; what there is to say has been said.
-fn main(rt: HostRuntime) -> anyhow::Result<()> {
+// Work that was refused, or a command line that is none, ends the program with status 1; what there is to say has been said. A failed read or
+// write is an error, which the runtime prints.
+fn main(rt: HostRuntime) -> anyhow::Result<ExitCode> {
     let mut arguments = Vec::new(rt.alloc());
     for argument in env::args(&rt)? {
         arguments.push(argument)?;
@@ -28,11 +29,11 @@ fn main(rt: HostRuntime) -> anyhow::Result<()> {
     match parse(arguments.as_slice()) {
         Command::Help => {
             print!(rt; "{USAGE}")?;
-            Ok(())
+            Ok(ExitCode::SUCCESS)
         }
         Command::Wrong(why) => {
             eprint!(rt; "kelfhoam: {why}\n{USAGE}")?;
-            Err(anyhow!("wrong command line"))
+            Ok(ExitCode::FAILURE)
         }
         Command::Convert { to, out, file } => run_convert(&rt, to, out, file),
         Command::Redump { to, out, file } => run_redump(&rt, to, out, file),

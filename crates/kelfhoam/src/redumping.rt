@@ -2,7 +2,6 @@
 use crate::input::{Form, count_events, form_name, form_of, read_input};
 use crate::refusing::{dump_line, load_line, stand_line};
 use crate::room::{MAX_STEPS, full_room};
-use anyhow::anyhow;
 use composer::Tables;
 use convert::Survey;
 use convert::survey::look_over;
@@ -16,6 +15,7 @@ use redump::{Outcome, Totals, no_totals, redump};
 use std::alloc::{AllocError, Global};
 use std::fs;
 use std::io::Write;
+use std::process::ExitCode;
 use tables::Empty;
 use yaml::{Refusal, Sink, Source};
 
@@ -193,7 +193,7 @@ pub fn run_redump(
     to: Option<Form>,
     out: Option<&str>,
     file: Option<&str>,
-) -> anyhow::Result<()> {
+) -> anyhow::Result<ExitCode> {
     let heap = rt.alloc();
     let input = read_input(rt, file)?;
     let bytes = input.as_slice();
@@ -203,7 +203,7 @@ pub fn run_redump(
         Ok(redumped) => redumped,
         Err(failure) => {
             rt.eprint(failure_line(heap, failure, bytes)?)?;
-            return Err(anyhow!("refused"));
+            return Ok(ExitCode::FAILURE);
         }
     };
     let told = summary(heap, from, to, bytes.len(), &redumped)?;
@@ -217,5 +217,5 @@ pub fn run_redump(
             rt.eprint(told)?;
         }
     }
-    Ok(())
+    Ok(ExitCode::SUCCESS)
 }

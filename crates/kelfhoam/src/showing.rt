@@ -10,6 +10,7 @@ use loader::{Answer, Loaded, Loader};
 use packed::PackedReader;
 use std::alloc::{AllocError, Global};
 use std::io::Write;
+use std::process::ExitCode;
 use yaml::Source;
 
 // A collection whose children are being told, and the place of the next one.
@@ -211,7 +212,11 @@ fn show_loaded(
     Ok(())
 }
 
-fn show_stream<S: Source + Drop>(rt: &HostRuntime, source: S, input: &[u8]) -> anyhow::Result<()> {
+fn show_stream<S: Source + Drop>(
+    rt: &HostRuntime,
+    source: S,
+    input: &[u8],
+) -> anyhow::Result<ExitCode> {
     let heap = rt.alloc();
     let mut room = full_room(heap)?;
     let mut tables = Tables::new(
@@ -225,18 +230,18 @@ fn show_stream<S: Source + Drop>(rt: &HostRuntime, source: S, input: &[u8]) -> a
     for document in 1..usize::MAX {
         match loader.load(&mut tables) {
             Answer::Loaded(loaded) => show_loaded(rt, &tables, &loaded, document)?,
-            Answer::Ended => return Ok(()),
+            Answer::Ended => return Ok(ExitCode::SUCCESS),
             Answer::Refused(refusal) => {
                 rt.eprint(load_line(heap, refusal, input.len(), count_events(input))?)?;
-                return Err(anyhow!("refused"));
+                return Ok(ExitCode::FAILURE);
             }
         }
     }
-    Ok(())
+    Ok(ExitCode::SUCCESS)
 }
 
 // Reads an input in either form and shows its documents.
-pub fn run_show(rt: &HostRuntime, file: Option<&str>) -> anyhow::Result<()> {
+pub fn run_show(rt: &HostRuntime, file: Option<&str>) -> anyhow::Result<ExitCode> {
     let input = read_input(rt, file)?;
     let bytes = input.as_slice();
     match form_of(bytes) {
