@@ -1,6 +1,6 @@
 /* Kelfhoam from C: `example FILE` lists the documents in a file of packed events on standard error, and writes them again to standard output.
  *
- *     gcc -std=c11 -I capi -o example capi/example.c -L target/staticlib -lkelfhoam_c
+ *     gcc -std=c11 -I capi -o example capi/example.c -L crates/kelfhoam_c/out -lkelfhoam_c
  *
  * A refusal is told with its number and its place, and ends with status 1 and nothing on standard output; bad usage ends with 2.
  */

@@ -1,6 +1,6 @@
 //! Kelfhoam from Rust: `example FILE` lists the documents in a file of packed events on standard error, and writes them again to standard output.
 //!
-//!     rustc --edition 2021 -O -L target/staticlib -o example capi/example.rs
+//!     rustc --edition 2021 -O -L crates/kelfhoam_c/out -o example capi/example.rs
 //!
 //! A refusal is told with its number and its place, and ends with status 1 and nothing on standard output; bad usage ends with 2. It prints what example.c does.
 #[allow(dead_code)]

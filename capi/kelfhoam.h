@@ -1,6 +1,6 @@
 /* Kelfhoam for C: load, write and redump YAML documents, as packed events (docs/EVENTS.md), in tables that the caller lends.
  *
- * Link with target/staticlib/libkelfhoam_c.a, which `rt staticlib kelfhoam_c` makes. No call allocates, keeps anything between calls,
+ * Link with crates/kelfhoam_c/out/libkelfhoam_c.a, which `rt lib` makes in crates/kelfhoam_c. No call allocates, keeps anything between calls,
  * or reaches outside what it is handed. A call trusts that each pointer is aligned for its entries and has that many of them behind it, readable, and
  * where it is not const writable and lent to nobody else during the call; where the length is 0 the pointer may be anything but NULL.
  * It trusts nothing of what the entries hold.

@@ -1,4 +1,4 @@
-//! Kelfhoam for Rust: safe calls over the static library that `rt staticlib kelfhoam_c` makes.
+//! Kelfhoam for Rust: safe calls over the static library that `rt lib` makes in crates/kelfhoam_c.
 //!
 //! `kelfhoam.h` beside this file says what each call does; the declarations here are the same. A slice is a pointer and a length, and the library
 //! trusts nothing of what the entries hold, so these wrappers ask nothing of their caller.
