@@ -20,7 +20,7 @@ use std::env;
 use std::process::ExitCode;
 
 // Work that was refused, or a command line that is none, ends the program with status 1; what there is to say has been said. A failed read or
-// write is an error, which the runtime prints.
+// write, or a want of memory, is an error, which the runtime prints.
 fn main(rt: HostRuntime) -> anyhow::Result<ExitCode> {
     let mut arguments = Vec::new(rt.alloc());
     for argument in env::args(&rt)? {
