@@ -17,6 +17,7 @@ use std::fs;
 use std::io::Write;
 use std::process::ExitCode;
 use tables::Empty;
+use walk::{Counted, Step};
 use yaml::{Refusal, Sink, Source};
 
 // Why nothing was redumped.
@@ -57,8 +58,8 @@ fn redump_stream<S: Source + Drop, K: Sink + Drop>(
     sink: K,
 ) -> Result<Totals, Failure> {
     let mut room = full_room(heap)?;
-    let mut counting = vec![in heap; <walk::entry::Counted as Empty>::none(); MAX_NODES]?;
-    let mut steps = vec![in heap; <walk::entry::Step as Empty>::none(); MAX_STEPS]?;
+    let mut counting = vec![in heap; Counted::none(); MAX_NODES]?;
+    let mut steps = vec![in heap; Step::none(); MAX_STEPS]?;
     let mut tables = Tables::new(
         room.nodes.as_mut_slice(),
         room.links.as_mut_slice(),

@@ -5,8 +5,8 @@ use loader::Anchor;
 use std::alloc::{AllocError, Global};
 use tables::Empty;
 
-// The steps of the longest walk: every node a collection, and every link.
-pub const MAX_STEPS: usize = 20481;
+// The steps of the longest walk: one for each link, one for the end of each node, if every one is a collection, and one for the root.
+pub const MAX_STEPS: usize = MAX_NODES + MAX_LINKS + 1;
 
 #[derive(Drop)]
 pub struct Room {
@@ -19,10 +19,10 @@ pub struct Room {
 
 pub fn full_room(heap: Global) -> Result<Room, AllocError> {
     Ok(Room {
-        nodes: vec![in heap; <Node as Empty>::none(); MAX_NODES]?,
+        nodes: vec![in heap; Node::none(); MAX_NODES]?,
         links: vec![in heap; 0u32; MAX_LINKS]?,
         text: vec![in heap; 0u8; MAX_TEXT]?,
-        anchors: vec![in heap; <Anchor as Empty>::none(); MAX_ANCHORS]?,
+        anchors: vec![in heap; Anchor::none(); MAX_ANCHORS]?,
         waiting: vec![in heap; 0u32; MAX_WAITING]?,
     })
 }

@@ -4,13 +4,15 @@ ghost use Rattle.std.specs.Prelude.{◌≤◌, length};
 use crate::hex::bytes_of;
 use crate::telling::tell_list;
 use crate::words::{put, put_number};
-use composer::Tables;
+use composer::{Anchor, Tables};
+use document::Node;
 use document::limits::{MAX_ANCHORS, MAX_LINKS, MAX_NODES, MAX_TEXT, MAX_WAITING};
 use std::alloc::{AllocError, Global};
 use tables::Empty;
+use walk::{Counted, Step};
 
-// The longest walk has so many steps.
-const STEPS: usize = 20481;
+// The longest walk has so many steps: one for each link, one for the end of each node, if every one is a collection, and one for the root.
+const STEPS: usize = MAX_NODES + MAX_LINKS + 1;
 
 // The lines that a document within the limits is written in have at most so many bytes.
 const ROOM: usize = 1048576;
@@ -41,13 +43,13 @@ fn put_title(out: &mut Vec<u8>, name: &[u8], number: u64) -> Result<(), AllocErr
 // What every line of the input comes to.
 pub fn tell_lists(heap: Global, input: &[u8]) -> Result<Vec<u8>, AllocError> {
     let mut out = Vec::new(heap);
-    let mut nodes = vec![in heap; <document::node::Node as Empty>::none(); MAX_NODES]?;
+    let mut nodes = vec![in heap; Node::none(); MAX_NODES]?;
     let mut links = vec![in heap; 0u32; MAX_LINKS]?;
     let mut text = vec![in heap; 0u8; MAX_TEXT]?;
-    let mut anchors = vec![in heap; <composer::anchor::Anchor as Empty>::none(); MAX_ANCHORS]?;
+    let mut anchors = vec![in heap; Anchor::none(); MAX_ANCHORS]?;
     let mut waiting = vec![in heap; 0u32; MAX_WAITING]?;
-    let mut counting = vec![in heap; <walk::entry::Counted as Empty>::none(); MAX_NODES]?;
-    let mut steps = vec![in heap; <walk::entry::Step as Empty>::none(); STEPS]?;
+    let mut counting = vec![in heap; Counted::none(); MAX_NODES]?;
+    let mut steps = vec![in heap; Step::none(); STEPS]?;
     let mut room = vec![in heap; 0u8; ROOM]?;
     let mut tables = Tables::new(
         nodes.as_mut_slice(),
