@@ -1,5 +1,5 @@
 -- There is no second answer to planning.
-use Rattle.std.proofs.Common.{◌≡◌, ℕ, List, [], ◌∷◌, ◌++◌, length, sym, refl, ap, ◌∙◌, subst, arith}
+use Rattle.std.proofs.Common.{◌≡◌, ℕ, List, [], ◌∷◌, ◌++◌, length, Ok, Err, Result, sym, refl, ap, ◌∙◌, subst, arith}
 use mathlib.Core.List.Memᴰ
 use mathlib.Core.List.{Memᴰ}
 use Rattle.model.specs.Graph.{Vertex}
@@ -7,8 +7,8 @@ use Rattle.serial.specs.Walk.{Token, again}
 use Rattle.serial.specs.Numbering.{number_of}
 use Rattle.walk.specs.declared.entry.Counted.{Counted}
 use Rattle.walk.specs.declared.entry.Step.{Step}
-use Rattle.walk.specs.declared.planning.Plan.{Plan}
-use Rattle.walk.specs.declared.planning.Plan.TheVariants.{NoNodes, TooFewCounts, TooDeep, TooFewSteps, NoAnchor, Planned}
+use Rattle.walk.specs.declared.planning.Unplanned.{Unplanned}
+use Rattle.walk.specs.declared.planning.Unplanned.TheVariants.{NoNodes, TooFewCounts, TooDeep, TooFewSteps, NoAnchor}
 use Rattle.walk.specs.Plans.{AllNamed, FirstUnnamed, TheWalk, Plans, Determined}
 
 same_walk : {g : List Vertex} {ts us : List Token} {seen met : List ℕ} → TheWalk g ts seen → TheWalk g us met → ts ≡ us
@@ -33,43 +33,43 @@ first_same g v w (a ∷ front) (b ∷ other) xs ys none nil all every e =
 one_unnamed : {g : List Vertex} {ts us : List Token} {v w : ℕ} → FirstUnnamed g ts v → FirstUnnamed g us w → ts ≡ us → v ≡ w
 one_unnamed {g} {ts} {us} {v} {w} a b e = first_same g v w a.before b.before a.rest b.rest a.unnamed b.unnamed a.others b.others (sym a.split ∙ e ∙ b.split)
 
-by_answers : (g : List Vertex) (counts : ℕ) (steps : List Step) (t t' : List Counted) (s s' : List Step) (a b : Plan) → Plans g counts steps a t s → Plans g counts steps b t' s' → a ≡ b
-by_answers g counts steps t t' s s' NoNodes NoNodes x y = refl
-by_answers g counts steps t t' s s' NoNodes TooFewCounts x y = absurd (omega (arith, x, y.some))
-by_answers g counts steps t t' s s' NoNodes TooDeep x y = absurd (omega (arith, x, y.enough.some))
-by_answers g counts steps t t' s s' NoNodes TooFewSteps x y = absurd (omega (arith, x, y.enough.some))
-by_answers g counts steps t t' s s' NoNodes (NoAnchor w) x y = absurd (omega (arith, x, y.enough.some))
-by_answers g counts steps t t' s s' NoNodes (Planned m) x y = absurd (omega (arith, x, y.enough.some))
-by_answers g counts steps t t' s s' TooFewCounts NoNodes x y = absurd (omega (arith, y, x.some))
-by_answers g counts steps t t' s s' TooFewCounts TooFewCounts x y = refl
-by_answers g counts steps t t' s s' TooFewCounts TooDeep x y = absurd (omega (arith, x.few, y.enough.room))
-by_answers g counts steps t t' s s' TooFewCounts TooFewSteps x y = absurd (omega (arith, x.few, y.enough.room))
-by_answers g counts steps t t' s s' TooFewCounts (NoAnchor w) x y = absurd (omega (arith, x.few, y.enough.room))
-by_answers g counts steps t t' s s' TooFewCounts (Planned m) x y = absurd (omega (arith, x.few, y.enough.room))
-by_answers g counts steps t t' s s' TooDeep NoNodes x y = absurd (omega (arith, y, x.enough.some))
-by_answers g counts steps t t' s s' TooDeep TooFewCounts x y = absurd (omega (arith, y.few, x.enough.room))
-by_answers g counts steps t t' s s' TooDeep TooDeep x y = refl
-by_answers g counts steps t t' s s' TooDeep TooFewSteps x y = absurd (x.too_deep y.tokens y.seen y.walk.walk)
-by_answers g counts steps t t' s s' TooDeep (NoAnchor w) x y = absurd (x.too_deep y.tokens y.seen y.walk.walk)
-by_answers g counts steps t t' s s' TooDeep (Planned m) x y = absurd (x.too_deep y.tokens y.seen y.walk.walk)
-by_answers g counts steps t t' s s' TooFewSteps NoNodes x y = absurd (omega (arith, y, x.enough.some))
-by_answers g counts steps t t' s s' TooFewSteps TooFewCounts x y = absurd (omega (arith, y.few, x.enough.room))
-by_answers g counts steps t t' s s' TooFewSteps TooDeep x y = absurd (y.too_deep x.tokens x.seen x.walk.walk)
-by_answers g counts steps t t' s s' TooFewSteps TooFewSteps x y = refl
-by_answers g counts steps t t' s s' TooFewSteps (NoAnchor w) x y = absurd (omega (arith, x.few, y.fits, ap length (same_walk x.walk y.walk)))
-by_answers g counts steps t t' s s' TooFewSteps (Planned m) x y = absurd (omega (arith, x.few, y.fits, ap length (same_walk x.walk y.walk)))
-by_answers g counts steps t t' s s' (NoAnchor v) NoNodes x y = absurd (omega (arith, y, x.enough.some))
-by_answers g counts steps t t' s s' (NoAnchor v) TooFewCounts x y = absurd (omega (arith, y.few, x.enough.room))
-by_answers g counts steps t t' s s' (NoAnchor v) TooDeep x y = absurd (y.too_deep x.tokens x.seen x.walk.walk)
-by_answers g counts steps t t' s s' (NoAnchor v) TooFewSteps x y = absurd (omega (arith, y.few, x.fits, ap length (same_walk y.walk x.walk)))
-by_answers g counts steps t t' s s' (NoAnchor v) (NoAnchor w) x y = ap NoAnchor (one_unnamed x.first_one y.first_one (same_walk x.walk y.walk))
-by_answers g counts steps t t' s s' (NoAnchor v) (Planned m) x y = absurd (not_both x.first_one y.named (same_walk x.walk y.walk))
-by_answers g counts steps t t' s s' (Planned n) NoNodes x y = absurd (omega (arith, y, x.enough.some))
-by_answers g counts steps t t' s s' (Planned n) TooFewCounts x y = absurd (omega (arith, y.few, x.enough.room))
-by_answers g counts steps t t' s s' (Planned n) TooDeep x y = absurd (y.too_deep x.tokens x.seen x.walk.walk)
-by_answers g counts steps t t' s s' (Planned n) TooFewSteps x y = absurd (omega (arith, y.few, x.fits, ap length (same_walk y.walk x.walk)))
-by_answers g counts steps t t' s s' (Planned n) (NoAnchor w) x y = absurd (not_both y.first_one x.named (same_walk y.walk x.walk))
-by_answers g counts steps t t' s s' (Planned n) (Planned m) x y = ap Planned (x.count ∙ ap length (same_walk x.walk y.walk) ∙ sym y.count)
+by_answers : (g : List Vertex) (counts : ℕ) (steps : List Step) (t t' : List Counted) (s s' : List Step) (a b : Result ℕ Unplanned) → Plans g counts steps a t s → Plans g counts steps b t' s' → a ≡ b
+by_answers g counts steps t t' s s' (Err NoNodes) (Err NoNodes) x y = refl
+by_answers g counts steps t t' s s' (Err NoNodes) (Err TooFewCounts) x y = absurd (omega (arith, x, y.some))
+by_answers g counts steps t t' s s' (Err NoNodes) (Err TooDeep) x y = absurd (omega (arith, x, y.enough.some))
+by_answers g counts steps t t' s s' (Err NoNodes) (Err TooFewSteps) x y = absurd (omega (arith, x, y.enough.some))
+by_answers g counts steps t t' s s' (Err NoNodes) (Err (NoAnchor w)) x y = absurd (omega (arith, x, y.enough.some))
+by_answers g counts steps t t' s s' (Err NoNodes) (Ok m) x y = absurd (omega (arith, x, y.enough.some))
+by_answers g counts steps t t' s s' (Err TooFewCounts) (Err NoNodes) x y = absurd (omega (arith, y, x.some))
+by_answers g counts steps t t' s s' (Err TooFewCounts) (Err TooFewCounts) x y = refl
+by_answers g counts steps t t' s s' (Err TooFewCounts) (Err TooDeep) x y = absurd (omega (arith, x.few, y.enough.room))
+by_answers g counts steps t t' s s' (Err TooFewCounts) (Err TooFewSteps) x y = absurd (omega (arith, x.few, y.enough.room))
+by_answers g counts steps t t' s s' (Err TooFewCounts) (Err (NoAnchor w)) x y = absurd (omega (arith, x.few, y.enough.room))
+by_answers g counts steps t t' s s' (Err TooFewCounts) (Ok m) x y = absurd (omega (arith, x.few, y.enough.room))
+by_answers g counts steps t t' s s' (Err TooDeep) (Err NoNodes) x y = absurd (omega (arith, y, x.enough.some))
+by_answers g counts steps t t' s s' (Err TooDeep) (Err TooFewCounts) x y = absurd (omega (arith, y.few, x.enough.room))
+by_answers g counts steps t t' s s' (Err TooDeep) (Err TooDeep) x y = refl
+by_answers g counts steps t t' s s' (Err TooDeep) (Err TooFewSteps) x y = absurd (x.too_deep y.tokens y.seen y.walk.walk)
+by_answers g counts steps t t' s s' (Err TooDeep) (Err (NoAnchor w)) x y = absurd (x.too_deep y.tokens y.seen y.walk.walk)
+by_answers g counts steps t t' s s' (Err TooDeep) (Ok m) x y = absurd (x.too_deep y.tokens y.seen y.walk.walk)
+by_answers g counts steps t t' s s' (Err TooFewSteps) (Err NoNodes) x y = absurd (omega (arith, y, x.enough.some))
+by_answers g counts steps t t' s s' (Err TooFewSteps) (Err TooFewCounts) x y = absurd (omega (arith, y.few, x.enough.room))
+by_answers g counts steps t t' s s' (Err TooFewSteps) (Err TooDeep) x y = absurd (y.too_deep x.tokens x.seen x.walk.walk)
+by_answers g counts steps t t' s s' (Err TooFewSteps) (Err TooFewSteps) x y = refl
+by_answers g counts steps t t' s s' (Err TooFewSteps) (Err (NoAnchor w)) x y = absurd (omega (arith, x.few, y.fits, ap length (same_walk x.walk y.walk)))
+by_answers g counts steps t t' s s' (Err TooFewSteps) (Ok m) x y = absurd (omega (arith, x.few, y.fits, ap length (same_walk x.walk y.walk)))
+by_answers g counts steps t t' s s' (Err (NoAnchor v)) (Err NoNodes) x y = absurd (omega (arith, y, x.enough.some))
+by_answers g counts steps t t' s s' (Err (NoAnchor v)) (Err TooFewCounts) x y = absurd (omega (arith, y.few, x.enough.room))
+by_answers g counts steps t t' s s' (Err (NoAnchor v)) (Err TooDeep) x y = absurd (y.too_deep x.tokens x.seen x.walk.walk)
+by_answers g counts steps t t' s s' (Err (NoAnchor v)) (Err TooFewSteps) x y = absurd (omega (arith, y.few, x.fits, ap length (same_walk y.walk x.walk)))
+by_answers g counts steps t t' s s' (Err (NoAnchor v)) (Err (NoAnchor w)) x y = ap (λ k. Err (NoAnchor k)) (one_unnamed x.first_one y.first_one (same_walk x.walk y.walk))
+by_answers g counts steps t t' s s' (Err (NoAnchor v)) (Ok m) x y = absurd (not_both x.first_one y.named (same_walk x.walk y.walk))
+by_answers g counts steps t t' s s' (Ok n) (Err NoNodes) x y = absurd (omega (arith, y, x.enough.some))
+by_answers g counts steps t t' s s' (Ok n) (Err TooFewCounts) x y = absurd (omega (arith, y.few, x.enough.room))
+by_answers g counts steps t t' s s' (Ok n) (Err TooDeep) x y = absurd (y.too_deep x.tokens x.seen x.walk.walk)
+by_answers g counts steps t t' s s' (Ok n) (Err TooFewSteps) x y = absurd (omega (arith, y.few, x.fits, ap length (same_walk y.walk x.walk)))
+by_answers g counts steps t t' s s' (Ok n) (Err (NoAnchor w)) x y = absurd (not_both y.first_one x.named (same_walk y.walk x.walk))
+by_answers g counts steps t t' s s' (Ok n) (Ok m) x y = ap Ok (x.count ∙ ap length (same_walk x.walk y.walk) ∙ sym y.count)
 
 pub determined : Determined
 determined g counts steps a b t t' s s' x y = by_answers g counts steps t t' s s' a b x y

@@ -1,5 +1,5 @@
 -- What planning answers, and when.
-use Rattle.std.specs.Prelude.{◌≡◌, ℕ, ◌+◌, ◌<◌, ◌≤◌, Bool, cond, ◌&&◌, List, [], ◌∷◌, ◌++◌, map, length, drop, Some, None, Option, ◌==◌, ◌≢◌}
+use Rattle.std.specs.Prelude.{◌≡◌, ℕ, ◌+◌, ◌<◌, ◌≤◌, Bool, cond, ◌&&◌, List, [], ◌∷◌, ◌++◌, map, length, drop, Some, None, Option, Ok, Err, Result, ◌==◌, ◌≢◌}
 use mathlib.Core.List.{Memᴰ}
 use Rattle.model.specs.Graph.{Vertex}
 use Rattle.serial.specs.Walk.{Token, first, again, leave, Walk}
@@ -8,8 +8,8 @@ use Rattle.serial.specs.Numbering.{number_of, anchor_of}
 use Rattle.serial.specs.RoundTrip.{Tells}
 use Rattle.walk.specs.declared.entry.Counted.{Counted}
 use Rattle.walk.specs.declared.entry.Step.{Step}
-use Rattle.walk.specs.declared.planning.Plan.{Plan}
-use Rattle.walk.specs.declared.planning.Plan.TheVariants.{NoNodes, TooFewCounts, TooDeep, TooFewSteps, NoAnchor, Planned}
+use Rattle.walk.specs.declared.planning.Unplanned.{Unplanned}
+use Rattle.walk.specs.declared.planning.Unplanned.TheVariants.{NoNodes, TooFewCounts, TooDeep, TooFewSteps, NoAnchor}
 use Rattle.walk.specs.Entries.{entry_at}
 use Rattle.walk.specs.Looks.{Inside}
 use Rattle.walk.specs.Going.{step_of}
@@ -101,17 +101,17 @@ pub record ReadyToWrite (g : List Vertex) (counts : ℕ) (steps : List Step) (n 
   pub tells : Tells (anchor_of g) tokens
 
 -- each answer with its side of the tests
-abbrev pub Plans : List Vertex → ℕ → List Step → Plan → List Counted → List Step → Type 0
-Plans g counts steps NoNodes t s = length g ≡ 0
-Plans g counts steps TooFewCounts t s = FewCounts g counts
-Plans g counts steps TooDeep t s = Deep g counts
-Plans g counts steps TooFewSteps t s = FewSteps g counts (length steps)
-Plans g counts steps (NoAnchor v) t s = Unnamed g counts (length steps) v
-Plans g counts steps (Planned n) t s = ReadyToWrite g counts steps n t s
+abbrev pub Plans : List Vertex → ℕ → List Step → Result ℕ Unplanned → List Counted → List Step → Type 0
+Plans g counts steps (Err NoNodes) t s = length g ≡ 0
+Plans g counts steps (Err TooFewCounts) t s = FewCounts g counts
+Plans g counts steps (Err TooDeep) t s = Deep g counts
+Plans g counts steps (Err TooFewSteps) t s = FewSteps g counts (length steps)
+Plans g counts steps (Err (NoAnchor v)) t s = Unnamed g counts (length steps) v
+Plans g counts steps (Ok n) t s = ReadyToWrite g counts steps n t s
 
 -- there is no second answer
 abbrev pub Determined : Type 0
-Determined = (g : List Vertex) (counts : ℕ) (steps : List Step) (a b : Plan) (t t' : List Counted) (s s' : List Step)
+Determined = (g : List Vertex) (counts : ℕ) (steps : List Step) (a b : Result ℕ Unplanned) (t t' : List Counted) (s s' : List Step)
     → Plans g counts steps a t s → Plans g counts steps b t' s' → a ≡ b
 
 -- what the walk starts from: the anchors' numbers are in the table, and no node is met

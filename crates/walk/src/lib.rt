@@ -4,10 +4,11 @@
 mod count;
 mod dump;
 pub mod entry;
+pub mod limits;
 mod look;
 pub mod name;
 pub mod planning;
 
 pub use entry::{Counted, Step};
 pub use name::{AnchorName, generate_anchor};
-pub use planning::{Plan, anchor_of, clear_plan, make_plan};
+pub use planning::{Unplanned, anchor_of, clear_plan, make_plan};

@@ -10,9 +10,9 @@ use crate::entry::{AGAIN, Counted, Step};
 use document::Document;
 use tables::clear;
 
-// The answer; the questions are asked in this order.
+// Why there is no plan; the questions are asked in this order.
 #[derive(Clone, Copy, PartialEq, Eq, Debug)]
-pub enum Plan {
+pub enum Unplanned {
     // the Document has no nodes
     NoNodes,
     // 55: the counting table has fewer entries than there are nodes
@@ -23,8 +23,6 @@ pub enum Plan {
     TooFewSteps,
     // 58: the node is met again and has no anchor; it is the first such
     NoAnchor(u32),
-    // the walk has so many steps
-    Planned(usize),
 }
 
 // Sets the counter back to 0 on every way out.
@@ -77,33 +75,36 @@ fn first_lacking(counting: &[Counted], steps: &[Step]) -> Option<u32>
 }
 
 // Walks over the numbered nodes.
-fn plan_walk(d: &Document<'_>, counting: &mut [Counted], steps: &mut [Step]) -> Plan
+fn plan_walk(
+    d: &Document<'_>,
+    counting: &mut [Counted],
+    steps: &mut [Step],
+) -> Result<usize, Unplanned>
     requires { Prepared (book_of d.now).nodes counting.old }
     ensures { Plans (book_of d.now).nodes (length counting.old) steps.old result counting.new steps.new }
 {
     d.sound();
     let walked = dump_node(d, counting, steps, 0, 1, 0);
     let Walked::To(count) = walked else {
-        return Plan::TooDeep;
+        return Err(Unplanned::TooDeep);
     };
     if count > steps.len() {
-        return Plan::TooFewSteps;
+        return Err(Unplanned::TooFewSteps);
     }
-    let lacking = first_lacking(counting, &steps[0..count]);
-    let Some(node) = lacking else {
-        return Plan::Planned(count);
-    };
-    Plan::NoAnchor(node)
+    match first_lacking(counting, &steps[0..count]) {
+        Some(node) => Err(Unplanned::NoAnchor(node)),
+        None => Ok(count),
+    }
 }
 
-// Numbers the anchors and walks over the nodes. Where it answers Planned, the tables hold the plan; else they hold anything.
+// Numbers the anchors and walks over the nodes, and answers with the number of steps. Then the tables hold the plan; else they hold anything.
 // Numbers begin at 1 whatever the counter held, and it is back at 0 in any case.
 pub fn make_plan(
     d: &Document<'_>,
     counting: &mut [Counted],
     steps: &mut [Step],
     last_anchor_id: &mut u32,
-) -> Plan
+) -> Result<usize, Unplanned>
     ensures counter { last_anchor_id.new ≡ 0 }
     ensures plan { Plans (book_of d.now).nodes (length counting.old) steps.old result counting.new steps.new }
     ensures determined { Determined }
@@ -112,10 +113,10 @@ pub fn make_plan(
     let guard = Reset(last_anchor_id);
     let nodes = d.len();
     if nodes == 0 {
-        return Plan::NoNodes;
+        return Err(Unplanned::NoNodes);
     }
     if counting.len() < nodes {
-        return Plan::TooFewCounts;
+        return Err(Unplanned::TooFewCounts);
     }
     clear(counting);
     anchor_node(d, counting, guard.0);

@@ -3,7 +3,7 @@
 
 use document::{Document, Node};
 use tables::Empty;
-use walk::{Counted, Plan, Step, anchor_of, generate_anchor, make_plan};
+use walk::{Counted, Step, Unplanned, anchor_of, generate_anchor, make_plan};
 
 // A node of the kind with that many links from a place on; its tag is the first byte of the text.
 pub fn node(kind: u8, first_link: u32, link_count: u32) -> Node {
@@ -25,7 +25,7 @@ pub fn planned<'x>(
     links: &'x [u32],
     counting: &mut [Counted],
     steps: &mut [Step],
-) -> Plan {
+) -> Result<usize, Unplanned> {
     let mut document = Document::empty();
     let _ = document.stand(nodes, links, b"t", nodes.len(), false, false);
     let mut last_anchor_id = 7;
@@ -33,7 +33,7 @@ pub fn planned<'x>(
 }
 
 // so many sequences, each in the one before, the last one empty; there is no room for steps
-pub fn nested(deep: u32) -> Plan {
+pub fn nested(deep: u32) -> Result<usize, Unplanned> {
     let mut nodes = [node(2, 0, 0); 257];
     let mut links = [0u32; 257];
     let mut counting = [<Counted as Empty>::none(); 257];
@@ -66,10 +66,7 @@ mod plans {
         let nodes = [node(3, 0, 2), node(1, 0, 0)];
         let mut counting = [<Counted as Empty>::none(); 2];
         let mut steps = [<Step as Empty>::none(); 5];
-        assert_eq!(rt;
-            planned(&nodes, &[2, 2], &mut counting, &mut steps),
-            Plan::Planned(4)
-        );
+        assert_eq!(rt; planned(&nodes, &[2, 2], &mut counting, &mut steps), Ok(4));
         assert_eq!(rt; anchor_of(&counting, 1), 0);
         assert_eq!(rt; anchor_of(&counting, 2), 1);
         assert_eq!(rt; steps[0], step(1, 1));
@@ -87,7 +84,7 @@ mod plans {
         let mut steps = [<Step as Empty>::none(); 8];
         assert_eq!(rt;
             planned(&nodes, &[2, 3, 3], &mut counting, &mut steps),
-            Plan::NoAnchor(3)
+            Err(Unplanned::NoAnchor(3))
         );
     }
 
@@ -98,24 +95,24 @@ mod plans {
         let mut two = [<Counted as Empty>::none(); 2];
         let mut few = [<Step as Empty>::none(); 2];
         let mut enough = [<Step as Empty>::none(); 3];
-        assert_eq!(rt; planned(&[], &[], &mut one, &mut few), Plan::NoNodes);
+        assert_eq!(rt;
+            planned(&[], &[], &mut one, &mut few),
+            Err(Unplanned::NoNodes)
+        );
         assert_eq!(rt;
             planned(&nodes, &[2], &mut one, &mut few),
-            Plan::TooFewCounts
+            Err(Unplanned::TooFewCounts)
         );
         assert_eq!(rt;
             planned(&nodes, &[2], &mut two, &mut few),
-            Plan::TooFewSteps
+            Err(Unplanned::TooFewSteps)
         );
-        assert_eq!(rt;
-            planned(&nodes, &[2], &mut two, &mut enough),
-            Plan::Planned(3)
-        );
+        assert_eq!(rt; planned(&nodes, &[2], &mut two, &mut enough), Ok(3));
     }
 
     #[test]
     fn deep(rt: HostRuntime) {
-        assert_eq!(rt; nested(256), Plan::TooFewSteps);
-        assert_eq!(rt; nested(257), Plan::TooDeep);
+        assert_eq!(rt; nested(256), Err(Unplanned::TooFewSteps));
+        assert_eq!(rt; nested(257), Err(Unplanned::TooDeep));
     }
 }

@@ -10,7 +10,7 @@ ghost use Rattle.dumper.specs.Calls.{Made, LawFrom, handed, Told, Rests};
 use super::Writer;
 use crate::answer::{Refused, Why, answer};
 use document::Document;
-use walk::{Counted, Plan, Step, clear_plan, make_plan};
+use walk::{Counted, Step, Unplanned, clear_plan, make_plan};
 use yaml::Sink;
 
 impl<S: Sink> Writer<S> {
@@ -126,25 +126,27 @@ impl<S: Sink> Writer<S> {
         d.sound();
         let plan = make_plan(d, counting, steps, &mut self.last_anchor_id);
         match plan {
-            // there are nodes
-            Plan::NoNodes => Ok(0),
-            Plan::TooFewCounts => Err(Refused {
-                events: 0,
-                why: Why::TooFewCounts,
-            }),
-            Plan::TooDeep => Err(Refused {
-                events: 0,
-                why: Why::TooDeep,
-            }),
-            Plan::TooFewSteps => Err(Refused {
-                events: 0,
-                why: Why::TooFewSteps,
-            }),
-            Plan::NoAnchor(node) => Err(Refused {
-                events: 0,
-                why: Why::NoAnchor(node),
-            }),
-            Plan::Planned(count) => {
+            Err(why) => match why {
+                // there are nodes
+                Unplanned::NoNodes => Ok(0),
+                Unplanned::TooFewCounts => Err(Refused {
+                    events: 0,
+                    why: Why::TooFewCounts,
+                }),
+                Unplanned::TooDeep => Err(Refused {
+                    events: 0,
+                    why: Why::TooDeep,
+                }),
+                Unplanned::TooFewSteps => Err(Refused {
+                    events: 0,
+                    why: Why::TooFewSteps,
+                }),
+                Unplanned::NoAnchor(node) => Err(Refused {
+                    events: 0,
+                    why: Why::NoAnchor(node),
+                }),
+            },
+            Ok(count) => {
                 let handed = self.write(&mut events, d, counting, &steps[0..count]);
                 answer(events, handed)
             }

@@ -25,8 +25,8 @@ returns-then-count-steps c =
     let went = visited_some b.nodes 0 1 (state t s 0) t' s' c.dump_node-walked.result n c.dump_node-walked.ensures c.in-To.is in
     few_steps b t t' s s' n c.sound.ensures c.requires went (omega (arith, c.if-count-steps.true, c.dump_node-walked.auto.steps))
 
-pub returns-in_default-lacking : goal.returns-in_default-lacking
-returns-in_default-lacking c =
+pub returns-in-None : goal.returns-in-None
+returns-in-None c =
     let b = book_of c.args.d.now in
     let t = c.args.counting.now in
     let s = c.args.steps.now in
@@ -35,10 +35,10 @@ returns-in_default-lacking c =
     let n = c.in-To.count in
     let went = visited_some b.nodes 0 1 (state t s 0) t' s' c.dump_node-walked.result n c.dump_node-walked.ensures c.in-To.is in
     let all : n ≡ n - 0 = omega arith in
-    ready b t t' s s' n c.sound.ensures c.requires went (omega (arith, c.if-count-steps.false, c.dump_node-walked.auto.steps)) (ap (λ k. first_lacking t' (take k s')) all ∙ sym c.first_lacking-lacking.ensures ∙ c.in_default-lacking.is)
+    ready b t t' s s' n c.sound.ensures c.requires went (omega (arith, c.if-count-steps.false, c.dump_node-walked.auto.steps)) (ap (λ k. first_lacking t' (take k s')) all ∙ sym c.first_lacking.ensures ∙ c.in-None.is)
 
-pub returns : goal.returns
-returns c =
+pub returns-in-Some : goal.returns-in-Some
+returns-in-Some c =
     let b = book_of c.args.d.now in
     let t = c.args.counting.now in
     let s = c.args.steps.now in
@@ -47,4 +47,4 @@ returns c =
     let n = c.in-To.count in
     let went = visited_some b.nodes 0 1 (state t s 0) t' s' c.dump_node-walked.result n c.dump_node-walked.ensures c.in-To.is in
     let all : n ≡ n - 0 = omega arith in
-    unnamed b t t' s s' n c.in-Some.node c.sound.ensures c.requires went (omega (arith, c.if-count-steps.false, c.dump_node-walked.auto.steps)) (ap (λ k. first_lacking t' (take k s')) all ∙ sym c.first_lacking-lacking.ensures ∙ c.in-Some.is)
+    unnamed b t t' s s' n c.in-Some.node c.sound.ensures c.requires went (omega (arith, c.if-count-steps.false, c.dump_node-walked.auto.steps)) (ap (λ k. first_lacking t' (take k s')) all ∙ sym c.first_lacking.ensures ∙ c.in-Some.is)

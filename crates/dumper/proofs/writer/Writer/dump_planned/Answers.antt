@@ -27,11 +27,11 @@ write-handed-requires g c =
     let b = book_of c.args.d.now in
     let h = handed b (length c.args.counting.now) (length c.args.steps.now) in
     let s = state_of g.S.Sink.view c.args.self.now in
-    let plan = c.in-Planned.ensures.plan in
+    let plan = c.in-Ok.ensures.plan in
     record {
       unspoilt = c.if-self.false;
       numbers = record { anchors = plan.anchors_hold; few = plan.anchors_few };
-      allowed = planned_allowed s h c.args.steps.now c.in-Planned.count c.make_plan-plan.new.counting c.make_plan-plan.new.steps plan c.sound.ensures;
+      allowed = planned_allowed s h c.args.steps.now c.in-Ok.count c.make_plan-plan.new.counting c.make_plan-plan.new.steps plan c.sound.ensures;
       few = omega (arith, c.space-space.ensures);
     }
 
@@ -39,29 +39,29 @@ pub returns-in-NoAnchor : goal.returns-in-NoAnchor
 returns-in-NoAnchor g c =
     let h = handed (book_of c.args.d.now) (length c.args.counting.now) (length c.args.steps.now) in
     let s = state_of g.S.Sink.view c.args.self.now in
-    let plan = c.in-NoAnchor.ensures.plan in
+    let plan = rw c.in-NoAnchor.is at c.in-Err.ensures.plan in
     record {
       called = record { failed = fails_anchors s h c.in-NoAnchor.node c.if-self.false c.if-self-2.false plan; none_taken = refl; same = refl };
       told = told_unnamed s h c.in-NoAnchor.node plan;
-      rests = λ _. c.in-NoAnchor.ensures.counter;
+      rests = λ _. c.in-Err.ensures.counter;
     }
 
-pub returns-in-Planned : goal.returns-in-Planned
-returns-in-Planned g c =
+pub returns-in-Ok : goal.returns-in-Ok
+returns-in-Ok g c =
     let b = book_of c.args.d.now in
     let h = handed b (length c.args.counting.now) (length c.args.steps.now) in
     let s = state_of g.S.Sink.view c.args.self.now in
     let t = state_of g.S.Sink.view c.write-handed.new.self in
-    let plan = c.in-Planned.ensures.plan in
-    let count = c.in-Planned.count in
+    let plan = c.in-Ok.ensures.plan in
+    let count = c.in-Ok.count in
     let table = c.make_plan-plan.new.counting in
     let held = c.make_plan-plan.new.steps in
     record {
-      called = subst (λ r. Called g.S.Sink.weight (dumping h) s (answer_of r) t) (sym c.answer-in-Planned.ensures)
+      called = subst (λ r. Called g.S.Sink.weight (dumping h) s (answer_of r) t) (sym c.answer-in-Ok.ensures)
           (called_by g.S.Sink.weight (dumping h) s _ c.write-handed.result t c.write-handed.new.events
           (passes_planned s h c.args.steps.now count table held plan c.if-self.false c.if-self-2.false refl)
           (wants_planned s h c.args.steps.now count table held plan)
           c.write-handed.ensures.goes);
-      told = subst (Told b) (sym c.answer-in-Planned.ensures) (told_answered b c.write-handed.new.events c.write-handed.result);
-      rests = λ _. c.write-handed.ensures.rests ∙ c.in-Planned.ensures.counter;
+      told = subst (Told b) (sym c.answer-in-Ok.ensures) (told_answered b c.write-handed.new.events c.write-handed.result);
+      rests = λ _. c.write-handed.ensures.rests ∙ c.in-Ok.ensures.counter;
     }
