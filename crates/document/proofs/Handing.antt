@@ -1,5 +1,5 @@
 -- From the tables cut to their space back to the tables handed in.
-use Rattle.std.proofs.Common.{◌≡◌, ℕ, ◌-◌, ◌≤◌, min, Bool, List, length, take, sym, ap, ◌∙◌, subst, ⊎_elim, arith}
+use Rattle.std.proofs.Common.{◌≡◌, ℕ, ◌≤◌, min, Bool, List, length, take, sym, ap, ◌∙◌, subst, ⊎_elim, arith}
 use Rattle.std.proofs.lemmas.List.{take_all}
 use Rattle.std.proofs.lemmas.Bool.{cases_lt}
 use Rattle.document.specs.declared.node.Node.{Node}
@@ -9,14 +9,10 @@ use Rattle.document.specs.declared.standing.Document.{Document}
 use Rattle.document.specs.Check.{AllFit, FaultBy, Handed, nodes_in, links_in, text_in, nodes_space, RefusedBy}
 use Rattle.document.specs.Books.{Stands}
 
-pub take_part : {X : Type 0} (n : ℕ) (xs : List X) → take (n - 0) xs ≡ take n xs
-take_part n xs = let e : n - 0 ≡ n = omega arith in ap (λ m. take m xs) e
-
 -- the entries within the space are those up to the limit
-pub take_space : {X : Type 0} (k m : ℕ) (xs : List X) → k ≡ min (length xs) m → take (k - 0) xs ≡ take m xs
+pub take_space : {X : Type 0} (k m : ℕ) (xs : List X) → k ≡ min (length xs) m → take k xs ≡ take m xs
 take_space k m xs e =
-    take_part k xs
-    ∙ ⊎_elim
+    ⊎_elim
     (λ less. let long : k ≡ length xs = omega arith in take_all k xs (omega arith) ∙ sym (take_all m xs (omega arith)))
     (λ more. let short : k ≡ m = omega arith in ap (λ n. take n xs) short)
     (cases_lt (length xs) m)

@@ -3,11 +3,12 @@ use Rattle.std.specs.Prelude.{◌≡◌, ℕ, Bool, false, cond, List, [], map, 
 use Rattle.model.specs.declared.NodeKind.{NodeKind}
 use Rattle.model.specs.declared.NodeKind.TheVariants.{Scalar, Sequence, Mapping}
 use Rattle.model.specs.Graph.{Look, Vertex, Book}
+use Rattle.document.specs.declared.handed.Handed.{Handed as HandedIn}
 use Rattle.document.specs.declared.node.Node.{Node}
 use Rattle.document.specs.declared.refusal.Refusal.{Refusal}
 use Rattle.document.specs.declared.standing.Document.{Document}
 use Rattle.document.specs.Questions.{tag_of, value_of, links_of}
-use Rattle.document.specs.Check.{Handed, nodes_in, links_in, text_in, Refused, Fit}
+use Rattle.document.specs.Check.{Handed, handed_of, nodes_in, links_in, text_in, Refused, Fit}
 
 abbrev pub kind_of : ℕ → NodeKind
 kind_of k = cond (k == 1) Scalar (cond (k == 2) Sequence Mapping)
@@ -48,11 +49,7 @@ pub record Stands (h : Handed) (s e : Bool) (d : Document) : Type 0 where
   pub text : d.text.now ≡ text_in h
   pub book : book_of d ≡ book_on h s e
 
--- it was refused, and is empty
-pub record StandsNot (h : Handed) (e : Refusal) (d : Document) : Type 0 where
-  pub why : Refused h e
-  pub bare : Bare d
-
-abbrev pub Stood : Handed → Bool → Bool → Result (Unit {0}) Refusal → Document → Type 0
-Stood h s e (Ok u) d = Stands h s e d
-Stood h s e (Err f) d = StandsNot h f d
+-- a Document that stands on what was handed in, or why there is none
+abbrev pub Stood : HandedIn → Result Document Refusal → Type 0
+Stood h (Ok d) = Stands (handed_of h) h.start_implicit h.end_implicit d
+Stood h (Err f) = Refused (handed_of h) f

@@ -1,6 +1,7 @@
 -- What the check answers: the first question whose answer is no, and the node that it was asked of.
 use Rattle.std.specs.Prelude.{◌≡◌, ℕ, ◌<◌, ◌≤◌, min, Bool, true, false, List, length, take, Some, None, Ok, Err, Option, Result}
 use Rattle.model.specs.Graph.{numbered}
+use Rattle.document.specs.declared.handed.Handed.{Handed as HandedIn}
 use Rattle.document.specs.declared.node.Node.{Node}
 use Rattle.document.specs.declared.refusal.Question.{Question}
 use Rattle.document.specs.declared.refusal.Question.TheVariants.{Count, Kind, Tag, Value, Links, Sums}
@@ -84,6 +85,9 @@ pub record Handed : Type 0 where
 
 abbrev pub handed : List Node → List ℕ → List ℕ → ℕ → Handed
 handed vs ls ts n = record { nodes = vs; links = ls; text = ts; count = n }
+
+abbrev pub handed_of : HandedIn → Handed
+handed_of h = handed h.nodes.now h.links.now h.text.now h.count
 
 -- as many nodes as there is space for
 abbrev pub nodes_space : Handed → ℕ

@@ -2,11 +2,13 @@
 #![tactic(auto)]
 
 pub mod check;
+pub mod handed;
 pub mod limits;
 pub mod node;
 pub mod refusal;
 pub mod standing;
 
+pub use handed::Handed;
 pub use model::{Mark, NodeKind};
 pub use node::Node;
 pub use refusal::{Question, Refusal, question_number};

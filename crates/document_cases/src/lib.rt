@@ -1,7 +1,7 @@
 // Small documents at each limit and one past it: what the check says of them, and what reading them gives.
 #![tactic(auto)]
 
-use document::{Document, Node, question_number};
+use document::{Document, Handed, Node, question_number};
 use tables::Empty;
 
 // A scalar whose tag is the first byte of the text, without value.
@@ -23,9 +23,16 @@ pub fn collection(kind: u8, first_link: u32, link_count: u32) -> Node {
 
 // What the check says: the refusal's number and node, or 0 and 0.
 pub fn verdict<'x>(nodes: &'x [Node], links: &'x [u32], text: &'x [u8], n: usize) -> (u8, u32) {
-    let mut document = Document::empty();
-    match document.stand(nodes, links, text, n, false, false) {
-        Ok(()) => (0, 0),
+    let handed = Handed {
+        nodes,
+        links,
+        text,
+        count: n,
+        start_implicit: false,
+        end_implicit: false,
+    };
+    match Document::stand(handed) {
+        Ok(_) => (0, 0),
         Err(refusal) => (question_number(refusal.question), refusal.node),
     }
 }
@@ -168,12 +175,15 @@ mod reads {
         item.value_start = 1;
         item.value_length = 2;
         let nodes = [collection(2, 0, 3), item];
-        let mut document = Document::empty();
-        assert!(rt;
-            document
-                .stand(&nodes, &[2, 2, 1], b"t15", 2, false, true)
-                .is_ok()
-        );
+        let handed = Handed {
+            nodes: &nodes,
+            links: &[2, 2, 1],
+            text: b"t15",
+            count: 2,
+            start_implicit: false,
+            end_implicit: true,
+        };
+        let document = Document::stand(handed).unwrap_or(Document::empty());
         assert_eq!(rt; document.root(), Some(1));
         assert_eq!(rt; document.len(), 2);
         assert!(rt; document.end_implicit() && !document.start_implicit());

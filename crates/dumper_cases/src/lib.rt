@@ -42,11 +42,29 @@ pub fn told(answer: Result<usize, Refused>) -> (usize, u8) {
 #[cfg(test)]
 mod calls {
     use super::*;
-    use document::Document;
+    use document::{Document, Handed};
     use dumper::{Why, Writer};
     use lines::LineWriter;
     use walk::{Counted, Step};
     use yaml::Refusal;
+
+    // The Document on the first nodes of these tables, or the empty one.
+    fn document<'x>(
+        nodes: &'x [Node],
+        links: &'x [u32],
+        count: usize,
+        implicit: bool,
+    ) -> Document<'x> {
+        let handed = Handed {
+            nodes,
+            links,
+            text: TEXT,
+            count,
+            start_implicit: implicit,
+            end_implicit: implicit,
+        };
+        Document::stand(handed).unwrap_or(Document::empty())
+    }
 
     const SHARED: &[u8] =
         b"+STR 0 0\n+DOC 0 1\n+SEQ 1 1 <tag:yaml.org,2002:seq\n=VAL 1 3 &id001 <tag:yaml.org,2002:str :a\n=ALI 0 0 &id001\n-SEQ 0 0\n-DOC 0 1\n-STR 0 0\n";
@@ -61,8 +79,7 @@ mod calls {
         let mut out = [0; 300];
         let mut lines = LineWriter::new(&mut out);
         let mut writer = Writer::new(&mut lines);
-        let mut d = Document::empty();
-        let _ = d.stand(&nodes, &links, TEXT, 2, true, true);
+        let d = document(&nodes, &links, 2, true);
         assert_eq!(rt; told(writer.dump(d, &mut counting, &mut steps)), (7, 0));
         assert_eq!(rt; told(writer.close()), (1, 0));
         assert_eq!(rt; told(writer.close()), (0, 0));
@@ -82,8 +99,7 @@ mod calls {
         let mut lines = LineWriter::new(&mut out);
         let mut writer = Writer::new(&mut lines);
         let _ = writer.open();
-        let mut d = Document::empty();
-        let _ = d.stand(&nodes, &links, TEXT, 1, false, false);
+        let d = document(&nodes, &links, 1, false);
         assert_eq!(rt; told(writer.dump(d, &mut counting, &mut steps)), (5, 0));
     }
 
@@ -108,8 +124,7 @@ mod calls {
         let mut out = [0; 300];
         let mut lines = LineWriter::new(&mut out);
         let mut writer = Writer::new(&mut lines);
-        let mut d = Document::empty();
-        let _ = d.stand(&nodes, &links, TEXT, 4, false, false);
+        let d = document(&nodes, &links, 4, false);
         let refused = Refused {
             events: 0,
             why: Why::NoAnchor(4),
@@ -134,8 +149,7 @@ mod calls {
             told(writer.dump(Document::empty(), &mut [], &mut [])),
             (0, 0)
         );
-        let mut d = Document::empty();
-        let _ = d.stand(&nodes, &[], TEXT, 1, false, false);
+        let d = document(&nodes, &[], 1, false);
         assert_eq!(rt; told(writer.dump(d, &mut counting, &mut steps)), (0, 54));
     }
 
@@ -148,8 +162,7 @@ mod calls {
         let mut out = [0; 20];
         let mut lines = LineWriter::new(&mut out);
         let mut writer = Writer::new(&mut lines);
-        let mut d = Document::empty();
-        let _ = d.stand(&nodes, &[], TEXT, 1, false, false);
+        let d = document(&nodes, &[], 1, false);
         let refused = Refused {
             events: 2,
             why: Why::Sink {

@@ -4,7 +4,7 @@ use crate::refusing::load_line;
 use crate::room::full_room;
 use anyhow::anyhow;
 use composer::Tables;
-use document::{Document, NodeKind};
+use document::{Document, Handed, NodeKind};
 use lines::LineReader;
 use loader::{Answer, Loaded, Loader};
 use packed::PackedReader;
@@ -183,19 +183,17 @@ fn show_loaded(
     loaded: &Loaded,
     document: usize,
 ) -> anyhow::Result<()> {
-    let mut d = Document::empty();
-    if d.stand(
-        tables.nodes(),
-        tables.links(),
-        tables.text(),
-        loaded.nodes,
-        loaded.start_implicit,
-        loaded.end_implicit,
-    )
-    .is_err()
-    {
+    let handed = Handed {
+        nodes: tables.nodes(),
+        links: tables.links(),
+        text: tables.text(),
+        count: loaded.nodes,
+        start_implicit: loaded.start_implicit,
+        end_implicit: loaded.end_implicit,
+    };
+    let Ok(d) = Document::stand(handed) else {
         return Err(anyhow!("a loaded document does not stand"));
-    }
+    };
     let start = if loaded.start_implicit {
         "implicit"
     } else {

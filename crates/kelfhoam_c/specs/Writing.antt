@@ -3,8 +3,9 @@ use Rattle.std.specs.Prelude.{◌≡◌, ℕ, ◌-◌, min, Bool, false, ◌≢�
 use Rattle.model.specs.Events.{Ev}
 use Rattle.model.specs.Graph.{Book}
 use Rattle.packed.specs.Packed.{size_of}
+use Rattle.document.specs.declared.handed.Handed.{Handed as HandedIn}
 use Rattle.document.specs.declared.refusal.Refusal.{Refusal as NoDocument}
-use Rattle.document.specs.Check.{Handed, Fit, Refused}
+use Rattle.document.specs.Check.{Handed, handed_of, Fit, Refused}
 use Rattle.document.specs.Books.{book_on}
 use Rattle.runs.specs.Writer.{State, opening, closing, dumping, Called}
 use Rattle.dumper.specs.declared.answer.Refused.{Refused as DumpRefused}
@@ -23,6 +24,9 @@ pub record Lent : Type 0 where
 
 abbrev pub lent : Handed → Bool → Bool → ℕ → ℕ → Lent
 lent h s e counts steps = record { tables = h; start_implicit = s; end_implicit = e; counts = counts; steps = steps }
+
+abbrev pub lent_by : HandedIn → ℕ → ℕ → Lent
+lent_by h counts steps = lent (handed_of h) h.start_implicit h.end_implicit counts steps
 
 -- the document without nodes
 abbrev pub book_of_nothing : Book

@@ -3,7 +3,7 @@
 
 use composer::refusal::Refusal;
 use composer::{Anchor, Tables, refusal_mark, refusal_number};
-use document::{Document, Node};
+use document::{Document, Handed, Node};
 use loader::{Answer, Loader};
 use packed::PackedReader;
 use tables::Empty;
@@ -160,8 +160,15 @@ pub fn used(
 
 // Whether a Document stands on the first n nodes.
 pub fn passes<'x>(nodes: &'x [Node], links: &'x [u32], text: &'x [u8], n: usize) -> bool {
-    let mut document = Document::empty();
-    document.stand(nodes, links, text, n, false, false).is_ok()
+    let handed = Handed {
+        nodes,
+        links,
+        text,
+        count: n,
+        start_implicit: false,
+        end_implicit: false,
+    };
+    Document::stand(handed).is_ok()
 }
 
 // The last of n loads: what came of it, how many entries are used after it, and whether a Document stands on the tables.

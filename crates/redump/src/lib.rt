@@ -2,7 +2,7 @@
 #![tactic(auto)]
 
 use composer::Tables;
-use document::Document;
+use document::{Document, Handed};
 use dumper::{Refused, Writer};
 use loader::{Answer, Loaded, Loader, Refusal};
 use walk::{Counted, Step};
@@ -49,18 +49,18 @@ fn dump_loaded<K: Sink>(
     steps: &mut [Step],
     totals: &mut Totals,
 ) -> Outcome {
-    let mut d = Document::empty();
-    let stood = d.stand(
-        tables.nodes(),
-        tables.links(),
-        tables.text(),
-        loaded.nodes,
-        loaded.start_implicit,
-        loaded.end_implicit,
-    );
-    if let Err(refusal) = stood {
-        return Outcome::Stand(refusal);
-    }
+    let handed = Handed {
+        nodes: tables.nodes(),
+        links: tables.links(),
+        text: tables.text(),
+        count: loaded.nodes,
+        start_implicit: loaded.start_implicit,
+        end_implicit: loaded.end_implicit,
+    };
+    let d = match Document::stand(handed) {
+        Ok(d) => d,
+        Err(refusal) => return Outcome::Stand(refusal),
+    };
     match writer.dump(d, counting, steps) {
         Ok(events) => {
             totals.documents = totals.documents.saturating_add(1);

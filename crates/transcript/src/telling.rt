@@ -2,7 +2,7 @@
 use crate::words::{put, put_mark, put_number, put_spaced, put_text};
 use composer::{Tables, refusal_mark, refusal_number};
 use document::limits::MAX_NODES;
-use document::{Document, NodeKind};
+use document::{Document, Handed, NodeKind};
 use dumper::{Refused, Why, Writer, why_number};
 use lines::LineWriter;
 use loader::{Answer, Loaded, Loader, Refusal};
@@ -119,15 +119,15 @@ fn tell_document<K: Sink>(
     steps: &mut [Step],
 ) -> Result<(), AllocError> {
     tell_loaded(out, loaded)?;
-    let mut d = Document::empty();
-    let _ = d.stand(
-        tables.nodes(),
-        tables.links(),
-        tables.text(),
-        loaded.nodes,
-        loaded.start_implicit,
-        loaded.end_implicit,
-    );
+    let handed = Handed {
+        nodes: tables.nodes(),
+        links: tables.links(),
+        text: tables.text(),
+        count: loaded.nodes,
+        start_implicit: loaded.start_implicit,
+        end_implicit: loaded.end_implicit,
+    };
+    let d = Document::stand(handed).unwrap_or(Document::empty());
     for i in 0..MAX_NODES as u32 {
         let number = i + 1;
         if d.kind(number).is_none() {

@@ -1,7 +1,7 @@
 // Small documents and what planning says of them: which nodes get an anchor, the steps, and each refusal.
 #![tactic(auto)]
 
-use document::{Document, Node};
+use document::{Document, Handed, Node};
 use tables::Empty;
 use walk::{Counted, Step, Unplanned, anchor_of, generate_anchor, make_plan};
 
@@ -26,8 +26,15 @@ pub fn planned<'x>(
     counting: &mut [Counted],
     steps: &mut [Step],
 ) -> Result<usize, Unplanned> {
-    let mut document = Document::empty();
-    let _ = document.stand(nodes, links, b"t", nodes.len(), false, false);
+    let handed = Handed {
+        nodes,
+        links,
+        text: b"t",
+        count: nodes.len(),
+        start_implicit: false,
+        end_implicit: false,
+    };
+    let document = Document::stand(handed).unwrap_or(Document::empty());
     let mut last_anchor_id = 7;
     make_plan(&document, counting, steps, &mut last_anchor_id)
 }

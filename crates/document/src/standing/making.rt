@@ -1,12 +1,12 @@
 // How a Document comes to stand on its tables.
 ghost use Rattle.std.specs.Prelude.{◌≡◌};
-ghost use Rattle.document.specs.Check.{handed, Determined};
+ghost use Rattle.document.specs.Check.{handed_of, Determined};
 ghost use Rattle.document.specs.Books.{Bare, Stood};
 
 use super::Document;
 use crate::check::check_all;
+use crate::handed::Handed;
 use crate::limits::{MAX_LINKS, MAX_NODES, MAX_TEXT, space};
-use crate::node::Node;
 use crate::refusal::{Question, Refusal};
 
 impl<'a> Document<'a> {
@@ -23,21 +23,15 @@ impl<'a> Document<'a> {
         }
     }
 
-    // Lets the Document stand on the first n nodes, the links and the text, if they pass the check; else it is empty.
-    pub fn stand(
-        &mut self,
-        nodes: &'a [Node],
-        links: &'a [u32],
-        text: &'a [u8],
-        n: usize,
-        start_implicit: bool,
-        end_implicit: bool,
-    ) -> Result<(), Refusal>
-        ensures stood { Stood (handed nodes.now links.now text.now n) start_implicit end_implicit result self.new }
-        ensures determined { Determined (handed nodes.now links.now text.now n) }
+    // The Document on the first `count` nodes, the links and the text that are handed in, if they pass the check.
+    pub fn stand(handed: Handed<'a>) -> Result<Document<'a>, Refusal>
+        ensures stood { Stood handed.entry result }
+        ensures determined { Determined (handed_of handed.entry) }
     {
-        *self = Document::empty();
-        if n > space(nodes.len(), MAX_NODES) {
+        let nodes = handed.nodes;
+        let links = handed.links;
+        let text = handed.text;
+        if handed.count > space(nodes.len(), MAX_NODES) {
             return Err(Refusal {
                 question: Question::Count,
                 node: 0,
@@ -45,17 +39,16 @@ impl<'a> Document<'a> {
         }
         let links_end = space(links.len(), MAX_LINKS);
         let text_end = space(text.len(), MAX_TEXT);
-        let nodes = &nodes[0..n];
-        let links = &links[0..links_end];
-        let text = &text[0..text_end];
+        let nodes = &nodes[..handed.count];
+        let links = &links[..links_end];
+        let text = &text[..text_end];
         check_all(nodes, links, text)?;
-        *self = Document {
+        Ok(Document {
             nodes,
             links,
             text,
-            start_implicit,
-            end_implicit,
-        };
-        Ok(())
+            start_implicit: handed.start_implicit,
+            end_implicit: handed.end_implicit,
+        })
     }
 }

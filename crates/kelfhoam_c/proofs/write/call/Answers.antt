@@ -20,11 +20,11 @@ returns-then-letter-eq101 g c =
     (bare_book c.empty.result c.empty.ensures) c.dump.ensures.called)
 
 pub returns-in-Err : goal.returns-in-Err
-returns-in-Err g c = no_document c.in-Err.refusal c.if-letter-ne100.false c.in-Err.ensures.stood.why c.tell_no_document.ensures refl
+returns-in-Err g c = no_document c.in-Err.refusal c.if-letter-ne100.false c.in-Err.ensures.stood c.tell_no_document.ensures refl
 
-pub returns : goal.returns
-returns g c =
-    let stood = c.in_default.ensures.stood in
-    dumps c.dump-2.result c.if-letter-ne100.false stood.fit c.tell_call-2.ensures
-    (subst (λ b. Called g.K.Sink.weight (dumping (handed b (length c.args.counting.now) (length c.args.steps.now))) (state_of g.K.Sink.view c.args.writer.now) (answer_of c.dump-2.result) (state_of g.K.Sink.view c.dump-2.new.self))
-    stood.book c.dump-2.ensures.called)
+pub returns-in-Ok : goal.returns-in-Ok
+returns-in-Ok g c =
+    let stood = c.in-Ok.ensures.stood in
+    dumps c.dump-in-Ok.result c.if-letter-ne100.false stood.fit c.tell_call-in-Ok.ensures
+    (subst (λ b. Called g.K.Sink.weight (dumping (handed b (length c.args.counting.now) (length c.args.steps.now))) (state_of g.K.Sink.view c.args.writer.now) (answer_of c.dump-in-Ok.result) (state_of g.K.Sink.view c.dump-in-Ok.new.self))
+    stood.book c.dump-in-Ok.ensures.called)

@@ -1,7 +1,6 @@
 use Rattle.std.proofs.Common.{◌≡◌, length, get_or, take, drop, refl, ◌∙◌, subst, arith}
-use Rattle.document.specs.Check.{handed}
 use Rattle.dumper.specs.States.{state_of}
-use Rattle.kelfhoam_c.specs.Writing.{Chain, lent, made_of}
+use Rattle.kelfhoam_c.specs.Writing.{Chain, lent_by, made_of}
 use Rattle.kelfhoam_c.proofs.Calling.{turned_as, chain_none, chain_more, rest_more}
 use Rattle.kelfhoam_c.proofs.write.call_all.Goals as goal
 
@@ -10,21 +9,21 @@ loop-i-init g c = (chain_none g.K.Sink.weight _ _ c.args.calls.now c.args.told.n
 
 pub loop-i-preserved : goal.loop-i-preserved
 loop-i-preserved g c =
-    let h = handed c.args.nodes.now c.args.links.now c.args.text.now c.args.n in
-    let d = lent h c.args.start_implicit c.args.end_implicit (length c.args.counting.now) (length c.args.steps.now) in
+    let h = c.args.handed in
+    let d = lent_by h (length c.args.counting.now) (length c.args.steps.now) in
     let i = c.loop-i.i in
     let before = state_of g.K.Sink.view c.loop-i.writer in
     let after = state_of g.K.Sink.view c.call.new.writer in
     let made = c.space-made.ensures in
-    let turned = turned_as g.K.Sink.weight h c.args.start_implicit c.args.end_implicit (length c.args.counting.now) (length c.args.steps.now) (length c.loop-i.counting) (length c.loop-i.steps) (get_or c.args.calls.now i 0) before c.call.result after c.loop-i.auto.counting c.loop-i.auto.steps c.call.ensures in (
+    let turned = turned_as g.K.Sink.weight h (length c.args.counting.now) (length c.args.steps.now) (length c.loop-i.counting) (length c.loop-i.steps) (get_or c.args.calls.now i 0) before c.call.result after c.loop-i.auto.counting c.loop-i.auto.steps c.call.ensures in (
       chain_more g.K.Sink.weight d (state_of g.K.Sink.view c.args.writer.now) c.args.calls.now c.loop-i.told i c.call.result before after (omega arith) (omega (arith, c.loop-i.auto.told)) c.loop-i.invariant.0 turned,
       rest_more c.loop-i.told c.args.told.now i c.call.result c.loop-i.invariant.1,
     )
 
 pub returns : goal.returns
 returns g c =
-    let h = handed c.args.nodes.now c.args.links.now c.args.text.now c.args.n in
-    let d = lent h c.args.start_implicit c.args.end_implicit (length c.args.counting.now) (length c.args.steps.now) in
+    let h = c.args.handed in
+    let d = lent_by h (length c.args.counting.now) (length c.args.steps.now) in
     let most = c.loop-i.auto.i-end in
     let least = c.loop-i-test.false in
     let all : c.loop-i.i ≡ c.space-made.result = omega arith in
