@@ -1,7 +1,8 @@
 -- Events, and which of them are allowed. docs/EVENTS.md shows the same table.
-use Rattle.std.specs.Prelude.{ℕ, Bool, true, not, ◌&&◌, List, [], ◌∷◌, length, ◌==◌, nat_le}
+use Rattle.std.specs.Prelude.{◌≡◌, ℕ, Bool, true, not, cond, ◌&&◌, List, [], ◌∷◌, length, Some, None, Ok, Err, Option, Result, ◌==◌, nat_le}
 use Rattle.model.specs.declared.EventKind.{EventKind}
 use Rattle.model.specs.declared.EventKind.TheVariants.{StreamStart, StreamEnd, DocumentStart, DocumentEnd, Alias, Scalar, SequenceStart, SequenceEnd, MappingStart, MappingEnd}
+use Rattle.model.specs.declared.NoSuchKind.{NoSuchKind}
 use Rattle.model.specs.declared.Cause.{Cause}
 use Rattle.model.specs.declared.Cause.TheVariants.{HeadCut, HeadNotAllowed, TextsCut, ZeroByte, NotALine}
 
@@ -68,6 +69,20 @@ kind_number SequenceStart = 7
 kind_number SequenceEnd = 8
 kind_number MappingStart = 9
 kind_number MappingEnd = 10
+
+-- the kind of a number
+abbrev pub kind_at : ℕ → Option EventKind
+kind_at n =
+    cond (n == 1) (Some StreamStart) (cond (n == 2) (Some StreamEnd)
+    (cond (n == 3) (Some DocumentStart) (cond (n == 4) (Some DocumentEnd)
+    (cond (n == 5) (Some Alias) (cond (n == 6) (Some Scalar)
+    (cond (n == 7) (Some SequenceStart) (cond (n == 8) (Some SequenceEnd)
+    (cond (n == 9) (Some MappingStart) (cond (n == 10) (Some MappingEnd) None)))))))))
+
+-- the answer is the kind of that number, or tells the number where no kind has it
+abbrev pub KindOf : ℕ → Result EventKind NoSuchKind → Type 0
+KindOf n (Ok k) = kind_at n ≡ Some k
+KindOf n (Err e) = (e.0 ≡ n) × (kind_at n ≡ None)
 
 -- the number of a source's fault
 abbrev pub cause_number : Cause → ℕ

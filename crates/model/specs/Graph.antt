@@ -1,6 +1,23 @@
 -- Documents as graphs of nodes; paths, where they lead, and what it means that two documents are alike by paths.
-use Rattle.std.specs.Prelude.{◌≡◌, ℕ, zero, suc, Bool, List, [], ◌∷◌, is_some, Some, None, Option}
+use Rattle.std.specs.Prelude.{◌≡◌, ℕ, zero, suc, Bool, cond, List, [], ◌∷◌, is_some, Some, None, Ok, Err, Option, Result, ◌==◌}
 use Rattle.model.specs.declared.NodeKind.{NodeKind}
+use Rattle.model.specs.declared.NodeKind.TheVariants.{Scalar, Sequence, Mapping}
+use Rattle.model.specs.declared.NoSuchKind.{NoSuchKind}
+
+-- the numbers of the kinds of nodes, as in `yaml_node_type_t`
+abbrev pub node_number : NodeKind → ℕ
+node_number Scalar = 1
+node_number Sequence = 2
+node_number Mapping = 3
+
+-- the kind of a number
+abbrev pub node_kind_at : ℕ → Option NodeKind
+node_kind_at n = cond (n == 1) (Some Scalar) (cond (n == 2) (Some Sequence) (cond (n == 3) (Some Mapping) None))
+
+-- the answer is the kind of that number, or tells the number where no kind has it
+abbrev pub NodeKindOf : ℕ → Result NodeKind NoSuchKind → Type 0
+NodeKindOf n (Ok k) = node_kind_at n ≡ Some k
+NodeKindOf n (Err e) = (e.0 ≡ n) × (node_kind_at n ≡ None)
 
 -- what a node looks like: all of it but its links and its marks
 pub record Look : Type 0 where

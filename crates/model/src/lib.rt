@@ -2,6 +2,8 @@
 // The definitions are in specs/; here stand only the plain records that the definitions and the code share.
 #![tactic(auto)]
 
+pub mod causes;
+pub mod kinds;
 pub mod theorems;
 
 // What an event tells; the numbers are those of `yaml_event_type_t`.
@@ -27,27 +29,31 @@ pub enum NodeKind {
     Mapping,
 }
 
+// A number that no kind has.
+#[derive(Clone, Copy, PartialEq, Eq, Debug)]
+pub struct NoSuchKind(pub u8);
+
 // A place in the input: `index` bytes, `line` events and `column` columns stand before it.
 #[repr(C)]
-#[derive(Clone, Copy, PartialEq, Eq, Debug)]
+#[derive(Clone, Copy, PartialEq, Eq, Debug, Default)]
 pub struct Mark {
     pub index: u64,
     pub line: u64,
     pub column: u64,
 }
 
-// Why a source can give no further event.
+// Why a source can give no further event; the numbers are those that the programs tell.
 #[derive(Clone, Copy, PartialEq, Eq, Debug)]
 pub enum Cause {
-    // 11: fewer than nine bytes are left for a head
-    HeadCut,
-    // 12: the head is none that an allowed event has
+    // fewer than nine bytes are left for a head
+    HeadCut = 11,
+    // the head is none that an allowed event has
     HeadNotAllowed,
-    // 13: the texts run past the input
+    // the texts run past the input
     TextsCut,
-    // 14: a zero byte stands in an anchor or a tag
+    // a zero byte stands in an anchor or a tag
     ZeroByte,
-    // 15: the line is none that the line writer writes
+    // the line is none that the line writer writes
     NotALine,
 }
 

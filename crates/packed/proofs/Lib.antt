@@ -1,3 +1,2 @@
 pub mod Nine
 pub mod Inner
-pub mod Storing

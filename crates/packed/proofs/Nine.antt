@@ -1,6 +1,6 @@
 -- Nine bytes and more, read by their places.
 use Rattle.std.proofs.Common.{◌≡◌, ℕ, ◌≤◌, List, [], ◌∷◌, length, get_or, drop, refl, arith}
-use Rattle.yaml.specs.Shapes.{kind_at}
+use Rattle.model.specs.Events.{kind_at}
 use Rattle.packed.specs.Packed.{by_head, two_bytes, packed_front}
 
 pub front_nine : (xs : List ℕ) → 9 ≤ length xs

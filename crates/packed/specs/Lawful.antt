@@ -7,9 +7,8 @@ use Rattle.model.specs.declared.EventKind.{EventKind}
 use Rattle.model.specs.declared.EventKind.TheVariants.{StreamStart, StreamEnd, DocumentStart, DocumentEnd, Alias, Scalar, SequenceStart, SequenceEnd, MappingStart, MappingEnd}
 use Rattle.model.specs.declared.Cause.{Cause}
 use Rattle.model.specs.declared.Cause.TheVariants.{HeadCut, HeadNotAllowed, TextsCut, ZeroByte}
-use Rattle.model.specs.Events.{Ev, table, within, zero_free, allowed, kind_number}
+use Rattle.model.specs.Events.{Ev, table, within, zero_free, allowed, kind_number, kind_at}
 use Rattle.model.specs.Reading.{Front, nothing, event, fault, Format}
-use Rattle.yaml.specs.Shapes.{kind_at}
 use Rattle.packed.specs.Packed.{head_bytes, packed_of, size_of, event_at, by_head, two_bytes, packed_front}
 
 kind_back : (k : EventKind) → kind_at (kind_number k) ≡ Some k

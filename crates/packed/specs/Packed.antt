@@ -2,9 +2,8 @@
 use Rattle.std.specs.Prelude.{ℕ, ◌+◌, ◌*◌, ◌/◌, ◌%◌, cond, ◌&&◌, List, [], ◌∷◌, ◌++◌, length, take, drop, Some, None, Option, nat_le, nat_lt}
 use Rattle.model.specs.declared.EventKind.{EventKind}
 use Rattle.model.specs.declared.Cause.TheVariants.{HeadCut, HeadNotAllowed, TextsCut, ZeroByte}
-use Rattle.model.specs.Events.{Ev, table, within, zero_free, kind_number}
+use Rattle.model.specs.Events.{Ev, table, within, zero_free, kind_number, kind_at}
 use Rattle.model.specs.Reading.{Front, nothing, event, fault}
-use Rattle.yaml.specs.Shapes.{kind_at}
 
 abbrev pub head_bytes : ℕ → ℕ → ℕ → ℕ → ℕ → ℕ → List ℕ
 head_bytes kind style flags a t v =

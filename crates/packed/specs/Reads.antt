@@ -1,19 +1,20 @@
 -- What a packed reader means.
 use Rattle.std.specs.Prelude.{◌≡◌, ℕ, List, None}
 use Rattle.std.specs.Option.{option_map}
-use Rattle.model.specs.Reading.{reading, read_all, events_of, fault_number, write_all}
+use Rattle.model.specs.Reading.{read_all, events_of, fault_number, write_all}
 use Rattle.model.proofs.Readings.{coming_allowed}
 use Rattle.yaml.specs.Shapes.{ev_of}
 use Rattle.yaml.specs.Flow.{Flow, Sound}
+use Rattle.yaml.specs.Places.{coming_at}
 use Rattle.packed.specs.declared.reader.PackedReader.{PackedReader}
 use Rattle.packed.specs.Packed.{packed_of, packed_front}
 use Rattle.packed.specs.Lawful.{packed_format}
 
 abbrev pub flow_of : PackedReader → Flow
-flow_of r = record { latest = option_map ev_of r.latest; coming = reading packed_front 0 r.place r.count r.rest.now }
+flow_of r = record { latest = option_map ev_of r.latest; coming = coming_at packed_front r.input }
 
 pub sound : (r : PackedReader) → Sound (flow_of r)
-sound r = coming_allowed packed_format 0 r.place r.count r.rest.now
+sound r = coming_allowed packed_format 0 r.input.place r.input.count r.input.rest.now
 
 -- a new reader: no event yet, and all of the input to come
 pub record Made (bytes : List ℕ) (r : PackedReader) : Type 0 where

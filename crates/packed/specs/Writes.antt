@@ -3,7 +3,6 @@ use Rattle.std.specs.Prelude.{◌≡◌, ℕ, ◌+◌, ◌-◌, ◌≤◌, true,
 use Rattle.std.proofs.Common.{arith}
 use Rattle.model.specs.Events.{Ev, allowed}
 use Rattle.model.specs.Reading.{read_all, events_of, write_all, fault_number}
-use Rattle.yaml.specs.Puts.{puts}
 use Rattle.yaml.specs.View.{View, Weighs}
 use Rattle.packed.specs.declared.writer.PackedWriter.{PackedWriter}
 use Rattle.packed.specs.Packed.{packed_of, packed_front, size_of}
@@ -23,16 +22,18 @@ weighs e a = let b = size_bound e a in (omega arith, omega arith)
 abbrev pub Sizes : Type 0
 Sizes = (e : Ev) → allowed e ≡ true → (9 ≤ size_of e) × (size_of e ≤ 4425)
 
--- bytes were put into the slice at a place, and nothing else altered
-pub record Put (before : PackedWriter) (at : ℕ) (bytes : List ℕ) (after : PackedWriter) : Type 0 where
-  pub slice : after.out.now ≡ puts before.out.now at bytes
+-- bytes were put into the slice at a place, up to another, and nothing before them altered
+pub record Put (before : PackedWriter) (at : ℕ) (bytes : List ℕ) (end : ℕ) (after : PackedWriter) : Type 0 where
+  pub place : end ≡ at + length bytes
+  pub front : take end after.out.now ≡ take at before.out.now ++ bytes
   pub used : after.used ≡ before.used
   pub length_same : length after.out.now ≡ length before.out.now
   pub same : after.out.ghost_name ≡ before.out.ghost_name
 
--- an event's bytes stand behind those that hold events, and nothing before them altered
-pub record Stored (before : PackedWriter) (e : Ev) (after : PackedWriter) : Type 0 where
-  pub bytes : take (before.used + size_of e) after.out.now ≡ held before ++ packed_of e
+-- an event's bytes stand behind those that hold events, up to a place, and nothing before them altered
+pub record Stored (before : PackedWriter) (e : Ev) (end : ℕ) (after : PackedWriter) : Type 0 where
+  pub place : end ≡ before.used + size_of e
+  pub bytes : take end after.out.now ≡ held before ++ packed_of e
   pub used : after.used ≡ before.used
   pub length_same : length after.out.now ≡ length before.out.now
   pub same : after.out.ghost_name ≡ before.out.ghost_name

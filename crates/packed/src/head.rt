@@ -1,99 +1,84 @@
 // What stands at the front of packed bytes.
-ghost use Rattle.std.specs.Prelude.{◌≡◌, ℕ, ◌+◌, ◌*◌, ◌<◌, ◌≤◌, length};
-ghost use Rattle.packed.specs.Packed.{packed_front, by_head, by_texts, two_bytes};
-ghost use Rattle.packed.specs.Ends.{front_of, Inside};
-ghost use Rattle.yaml.specs.Shapes.{kind_at};
+ghost use Rattle.std.specs.Prelude.{◌≡◌, ◌<◌, Some, length};
+ghost use Rattle.packed.specs.Packed.{packed_front, by_head, two_bytes};
+ghost use Rattle.packed.specs.Ends.{found_of, front_of, Inside};
 
-use yaml::event::{head_allowed, kind_from_number, zero_free};
-use yaml::{Cause, Event, EventKind};
+use yaml::event::zero_free;
+use yaml::{Cause, Event, EventKind, Shape};
 
 // The bytes of a head.
 pub const HEAD: usize = 9;
 
-// What stands at the front of an input: nothing where there is no byte, an event and the number of its bytes, or the cause why there is none.
+// An event that stands at the front of an input, and the number of its bytes.
 #[derive(Clone, Copy)]
-pub enum Front<'a> {
-    Nothing,
-    Found { event: Event<'a>, size: usize },
-    Fault(Cause),
+pub struct Found<'a> {
+    pub event: Event<'a>,
+    pub size: usize,
 }
 
 // The number of two bytes, high byte first.
 fn two_bytes(high: u8, low: u8) -> usize
-    ensures { (result ≡ two_bytes high low) × (result < 65536) }
+    ensures value { result ≡ two_bytes high low }
+    ensures small { result < 65536 }
 {
-    256 * high as usize + low as usize
+    u16::from_be_bytes([high, low]) as usize
 }
 
-// Cuts the texts, of lengths that a head told, from the front of what follows the head.
-fn cut_texts<'a>(
-    kind: EventKind,
-    style: u8,
-    flags: u8,
-    anchor: usize,
-    tag: usize,
-    value: usize,
-    texts: &'a [u8],
-) -> Front<'a>
-    requires { (anchor < 65536) × ((tag < 65536) × (value < 65536)) }
-    ensures { front_of result ≡ by_texts kind style flags anchor tag value texts.now }
+// Cuts the texts of an allowed event, of lengths that its head told, from the front of what follows the head.
+fn cut_texts<'a>(shape: Shape, texts: &'a [u8]) -> Result<Found<'a>, Cause>
+    requires anchor { shape.anchor < 65536 }
+    requires tag { shape.tag < 65536 }
+    requires value { shape.value < 65536 }
+    ensures { found_of result ≡ by_head (Some shape.kind) shape.style shape.flags shape.anchor shape.tag shape.value texts.now }
 {
-    if texts.len() < anchor + tag + value {
-        return Front::Fault(Cause::TextsCut);
+    if !shape.is_allowed() {
+        return Err(Cause::HeadNotAllowed);
     }
-    let (first, rest) = texts.split_at(anchor);
-    let (second, rest) = rest.split_at(tag);
-    let (third, _) = rest.split_at(value);
-    if !zero_free(first) || !zero_free(second) {
-        return Front::Fault(Cause::ZeroByte);
+    let length = shape.anchor + shape.tag + shape.value;
+    if texts.len() < length {
+        return Err(Cause::TextsCut);
+    }
+    let (anchor, rest) = texts.split_at(shape.anchor);
+    let (tag, rest) = rest.split_at(shape.tag);
+    let (value, _) = rest.split_at(shape.value);
+    if !zero_free(anchor) || !zero_free(tag) {
+        return Err(Cause::ZeroByte);
     }
     let event = Event {
-        kind,
-        style,
-        flags,
-        anchor: first,
-        tag: second,
-        value: third,
+        kind: shape.kind,
+        style: shape.style,
+        flags: shape.flags,
+        anchor,
+        tag,
+        value,
     };
-    let size = HEAD + anchor + tag + value;
-    Front::Found { event, size }
+    Ok(Found {
+        event,
+        size: HEAD + length,
+    })
 }
 
-// Asks whether a head is one that an allowed event has, and cuts the texts behind it.
-fn read_head<'a>(
-    number: u8,
-    style: u8,
-    flags: u8,
-    anchor: usize,
-    tag: usize,
-    value: usize,
-    texts: &'a [u8],
-) -> Front<'a>
-    requires { (anchor < 65536) × ((tag < 65536) × (value < 65536)) }
-    ensures { front_of result ≡ by_head (kind_at number) style flags anchor tag value texts.now }
-{
-    let Some(kind) = kind_from_number(number) else {
-        return Front::Fault(Cause::HeadNotAllowed);
-    };
-    if !head_allowed(kind, style, flags, anchor, tag, value) {
-        return Front::Fault(Cause::HeadNotAllowed);
-    }
-    cut_texts(kind, style, flags, anchor, tag, value, texts)
-}
-
-// Reads the event at the front: none where there is no byte, else an event or the cause why there is none.
-pub fn read_front<'a>(rest: &'a [u8]) -> Front<'a>
+// Reads the event at the front; none where there is no byte, and else the cause why there is none.
+pub fn read_front<'a>(rest: &'a [u8]) -> Result<Option<Found<'a>>, Cause>
     ensures front { front_of result ≡ packed_front rest.now }
     ensures inside { Inside result (length rest.now) }
 {
     match rest {
-        [] => Front::Nothing,
+        [] => Ok(None),
         [number, style, flags, a1, a0, t1, t0, v1, v0, texts @ ..] => {
-            let anchor = two_bytes(*a1, *a0);
-            let tag = two_bytes(*t1, *t0);
-            let value = two_bytes(*v1, *v0);
-            read_head(*number, *style, *flags, anchor, tag, value, texts)
+            let Ok(kind) = EventKind::try_from(*number) else {
+                return Err(Cause::HeadNotAllowed);
+            };
+            let shape = Shape {
+                kind,
+                style: *style,
+                flags: *flags,
+                anchor: two_bytes(*a1, *a0),
+                tag: two_bytes(*t1, *t0),
+                value: two_bytes(*v1, *v0),
+            };
+            Ok(Some(cut_texts(shape, texts)?))
         }
-        _ => Front::Fault(Cause::HeadCut),
+        _ => Err(Cause::HeadCut),
     }
 }

@@ -5,6 +5,6 @@ pub mod head;
 pub mod reader;
 pub mod writer;
 
-pub use head::Front;
+pub use head::Found;
 pub use reader::PackedReader;
 pub use writer::PackedWriter;

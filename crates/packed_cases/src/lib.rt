@@ -4,20 +4,20 @@
 use convert::{End, hand_all};
 use lines::LineReader;
 use packed::{PackedReader, PackedWriter};
-use yaml::event::{allowed, cause_number, kind_from_number, kind_number};
+use yaml::event::allowed;
 use yaml::{Event, EventKind, Refusal, Sink, Source, Text};
 
-// How many events come of an input, and the number and the place of the fault after them, or zeros.
-pub fn reading(bytes: &[u8]) -> (usize, u8, u64) {
+// How many events come of an input, and the number and the place of the fault after them, if there is one.
+pub fn reading(bytes: &[u8]) -> (usize, Option<(u8, u64)>) {
     let mut reader = PackedReader::new(bytes);
     for i in 0..20 {
         match reader.next_event() {
             Ok(Some(_)) => {}
-            Ok(None) => return (i, 0, 0),
-            Err(fault) => return (i, cause_number(fault.cause), fault.place),
+            Ok(None) => return (i, None),
+            Err(fault) => return (i, Some((fault.cause.number(), fault.place))),
         }
     }
-    (20, 0, 0)
+    (20, None)
 }
 
 // An event with texts.
@@ -81,19 +81,6 @@ pub fn take_scalar(writer: &mut PackedWriter<'_>, style: u8, value: &[u8]) -> Re
     <PackedWriter<'_> as Sink>::take(writer, &event(EventKind::Scalar, style, 0, b"", b"", value))
 }
 
-// Whether two byte strings are the same.
-pub fn same(a: &[u8], b: &[u8]) -> bool {
-    if a.len() != b.len() {
-        return false;
-    }
-    for (x, y) in a.iter().zip(b.iter()) {
-        if *x != *y {
-            return false;
-        }
-    }
-    true
-}
-
 #[cfg(test)]
 mod tests {
     use super::*;
@@ -107,24 +94,24 @@ mod tests {
 
     #[test]
     fn the_book_is_read(rt: HostRuntime) {
-        assert_eq!(rt; reading(&BOOK), (8, 0, 0));
-        assert_eq!(rt; reading(&[]), (0, 0, 0));
+        assert_eq!(rt; reading(&BOOK), (8, None));
+        assert_eq!(rt; reading(&[]), (0, None));
     }
 
     #[test]
     fn faults_have_number_and_place(rt: HostRuntime) {
-        assert_eq!(rt; reading(&BOOK[0..17]), (1, 11, 9));
-        assert_eq!(rt; reading(&BOOK[0..1]), (0, 11, 0));
-        assert_eq!(rt; reading(&[0, 0, 0, 0, 0, 0, 0, 0, 0]), (0, 12, 0));
-        assert_eq!(rt; reading(&[11, 0, 0, 0, 0, 0, 0, 0, 0]), (0, 12, 0));
-        assert_eq!(rt; reading(&[1, 4, 0, 0, 0, 0, 0, 0, 0]), (0, 12, 0));
-        assert_eq!(rt; reading(&[6, 0, 0, 0, 65, 0, 0, 0, 0]), (0, 12, 0));
-        assert_eq!(rt; reading(&[6, 0, 0, 0, 0, 1, 1, 0, 0]), (0, 12, 0));
-        assert_eq!(rt; reading(&[6, 0, 0, 0, 0, 0, 0, 16, 1]), (0, 12, 0));
-        assert_eq!(rt; reading(&[6, 0, 0, 0, 0, 0, 0, 16, 0]), (0, 13, 0));
-        assert_eq!(rt; reading(&[5, 0, 0, 0, 1, 0, 0, 0, 0, 0]), (0, 14, 0));
-        assert_eq!(rt; reading(&[6, 0, 0, 0, 0, 0, 1, 0, 0, 0]), (0, 14, 0));
-        assert_eq!(rt; reading(&[6, 0, 0, 0, 0, 0, 0, 0, 1, 0]), (1, 0, 0));
+        assert_eq!(rt; reading(&BOOK[0..17]), (1, Some((11, 9))));
+        assert_eq!(rt; reading(&BOOK[0..1]), (0, Some((11, 0))));
+        assert_eq!(rt; reading(&[0, 0, 0, 0, 0, 0, 0, 0, 0]), (0, Some((12, 0))));
+        assert_eq!(rt; reading(&[11, 0, 0, 0, 0, 0, 0, 0, 0]), (0, Some((12, 0))));
+        assert_eq!(rt; reading(&[1, 4, 0, 0, 0, 0, 0, 0, 0]), (0, Some((12, 0))));
+        assert_eq!(rt; reading(&[6, 0, 0, 0, 65, 0, 0, 0, 0]), (0, Some((12, 0))));
+        assert_eq!(rt; reading(&[6, 0, 0, 0, 0, 1, 1, 0, 0]), (0, Some((12, 0))));
+        assert_eq!(rt; reading(&[6, 0, 0, 0, 0, 0, 0, 16, 1]), (0, Some((12, 0))));
+        assert_eq!(rt; reading(&[6, 0, 0, 0, 0, 0, 0, 16, 0]), (0, Some((13, 0))));
+        assert_eq!(rt; reading(&[5, 0, 0, 0, 1, 0, 0, 0, 0, 0]), (0, Some((14, 0))));
+        assert_eq!(rt; reading(&[6, 0, 0, 0, 0, 0, 1, 0, 0, 0]), (0, Some((14, 0))));
+        assert_eq!(rt; reading(&[6, 0, 0, 0, 0, 0, 0, 0, 1, 0]), (1, None));
     }
 
     #[test]
@@ -166,10 +153,10 @@ mod tests {
         let most_style = [3, 0, 0, 0, 0, 5, 2, 0, 2, 0];
         let most_flags = [0, 0, 1, 1, 0, 3, 1, 0, 1, 0];
         for number in 1..11u8 {
-            let Some(kind) = kind_from_number(number) else {
+            let Ok(kind) = EventKind::try_from(number) else {
                 return Err(Fail::new("a kind is missing"));
             };
-            assert!(rt; kind_number(kind) == number);
+            assert!(rt; u8::from(kind) == number);
             let i = number as usize - 1;
             let style: u8 = most_style[i];
             let flags: u8 = most_flags[i];
@@ -177,8 +164,8 @@ mod tests {
             assert!(rt; !plain_allowed(kind, style.saturating_add(1), flags));
             assert!(rt; !plain_allowed(kind, style, flags.saturating_add(1)));
         }
-        assert!(rt; kind_from_number(0).is_none());
-        assert!(rt; kind_from_number(11).is_none());
+        assert!(rt; EventKind::try_from(0).is_err());
+        assert!(rt; EventKind::try_from(11).is_err());
         Ok(())
     }
 
@@ -233,7 +220,7 @@ mod tests {
         assert!(rt; converted.events == 8);
         assert!(rt; matches!(converted.end, End::Ended));
         let written = sink.finish();
-        assert!(rt; same(written, &BOOK));
+        assert!(rt; written == &BOOK);
     }
 
     #[test]

@@ -1,3 +1,4 @@
+pub mod Zeros
 pub mod Gives
 pub mod Puts
 pub mod Takes

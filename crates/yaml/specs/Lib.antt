@@ -1,4 +1,5 @@
 pub mod Shapes
 pub mod Flow
 pub mod View
+pub mod Places
 pub mod Puts

@@ -1,12 +1,12 @@
 -- How the code's records show the events that they stand for.
-use Rattle.std.specs.Prelude.{ℕ, cond, List, length, Some, None, Option, ◌==◌}
-use Rattle.model.specs.declared.EventKind.{EventKind}
-use Rattle.model.specs.declared.EventKind.TheVariants.{StreamStart, StreamEnd, DocumentStart, DocumentEnd, Alias, Scalar, SequenceStart, SequenceEnd, MappingStart, MappingEnd}
-use Rattle.model.specs.Events.{Ev, Row}
+use Rattle.std.specs.Prelude.{ℕ, Bool, List, length}
+use Rattle.model.specs.declared.Mark.{Mark}
+use Rattle.model.specs.Events.{Ev, Row, table, within}
 use Rattle.model.specs.Reading.{Marked}
 use Rattle.yaml.specs.declared.event.Event.{Event}
 use Rattle.yaml.specs.declared.event.Head.{Head}
 use Rattle.yaml.specs.declared.event.Limits.{Limits}
+use Rattle.yaml.specs.declared.event.Shape.{Shape}
 use Rattle.yaml.specs.declared.event.Text.{Text}
 use Rattle.yaml.specs.declared.event.Text.TheVariants.{Anchor, Tag, Value}
 
@@ -14,9 +14,12 @@ use Rattle.yaml.specs.declared.event.Text.TheVariants.{Anchor, Tag, Value}
 abbrev pub ev_of : Event → Ev
 ev_of e = record { kind = e.kind; style = e.style; flags = e.flags; anchor = e.anchor.now; tag = e.tag.now; value = e.value.now }
 
--- what a source tells at once of an event
+-- what a source tells at once of an event between two marks
+abbrev pub head_with : Ev → Mark → Mark → Head
+head_with e start end = record { kind = e.kind; style = e.style; flags = e.flags; anchor = length e.anchor; tag = length e.tag; value = length e.value; start = start; end = end }
+
 abbrev pub head_of : Marked → Head
-head_of m = record { kind = m.event.kind; style = m.event.style; flags = m.event.flags; anchor = length m.event.anchor; tag = length m.event.tag; value = length m.event.value; start = m.start; end = m.end }
+head_of m = head_with m.event m.start m.end
 
 abbrev pub text_of : Text → Ev → List ℕ
 text_of Anchor e = e.anchor
@@ -26,11 +29,10 @@ text_of Value e = e.value
 abbrev pub row_of : Limits → Row
 row_of l = record { most_style = l.style; most_flags = l.flags; least_anchor = l.least_anchor; most_anchor = l.anchor; most_tag = l.tag; most_value = l.value }
 
--- the kind of a number
-abbrev pub kind_at : ℕ → Option EventKind
-kind_at n =
-    cond (n == 1) (Some StreamStart) (cond (n == 2) (Some StreamEnd)
-    (cond (n == 3) (Some DocumentStart) (cond (n == 4) (Some DocumentEnd)
-    (cond (n == 5) (Some Alias) (cond (n == 6) (Some Scalar)
-    (cond (n == 7) (Some SequenceStart) (cond (n == 8) (Some SequenceEnd)
-    (cond (n == 9) (Some MappingStart) (cond (n == 10) (Some MappingEnd) None)))))))))
+-- an event with its texts by their lengths
+abbrev pub shape_of : Ev → Shape
+shape_of e = record { kind = e.kind; style = e.style; flags = e.flags; anchor = length e.anchor; tag = length e.tag; value = length e.value }
+
+-- some event may have this shape
+abbrev pub shape_allowed : Shape → Bool
+shape_allowed s = within (table s.kind) s.style s.flags s.anchor s.tag s.value

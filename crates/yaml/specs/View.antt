@@ -40,6 +40,12 @@ Took weight before e (Ok u) after = Accepted weight before e after
 Took weight before e (Err NotAllowed) after = Unfit before e after
 Took weight before e (Err (NoSpace size space)) after = Full weight before e size space after
 
+-- the size is told where there is one within the space, and else why the event is refused
+abbrev pub Fits : Option ℕ → ℕ → Result ℕ Refusal → Type 0
+Fits size space (Ok n) = (size ≡ Some n) × (n ≤ space)
+Fits size space (Err NotAllowed) = size ≡ None
+Fits size space (Err (NoSpace n s)) = (size ≡ Some n) × (s ≡ space) × (space < n)
+
 -- the number of a sink's refusal
 abbrev pub refusal_number : Refusal → ℕ
 refusal_number NotAllowed = 31

@@ -1,7 +1,7 @@
 // Events as they are handed on, and which of them are allowed (docs/EVENTS.md has the table).
-ghost use Rattle.std.specs.Prelude.{◌≡◌, ℕ, ◌≤◌, length};
-ghost use Rattle.model.specs.Events.{table, within, zero_free, allowed as allowed_event, kind_number, cause_number};
-ghost use Rattle.yaml.specs.Shapes.{ev_of, row_of, kind_at};
+ghost use Rattle.std.specs.Prelude.{◌≡◌};
+ghost use Rattle.model.specs.Events.{table, zero_free, allowed as allowed_event, kind_number, cause_number};
+ghost use Rattle.yaml.specs.Shapes.{ev_of, shape_of, shape_allowed, head_with, text_of, row_of};
 
 use model::{Cause, EventKind, Mark};
 
@@ -36,6 +36,17 @@ pub struct Head {
     pub end: Mark,
 }
 
+// What the packed head of an event tells: all of the event but its texts, of which it tells the lengths.
+#[derive(Clone, Copy)]
+pub struct Shape {
+    pub kind: EventKind,
+    pub style: u8,
+    pub flags: u8,
+    pub anchor: usize,
+    pub tag: usize,
+    pub value: usize,
+}
+
 // Which of an event's texts.
 #[derive(Clone, Copy)]
 pub enum Text {
@@ -59,39 +70,14 @@ pub struct Limits {
 pub fn kind_number(kind: EventKind) -> u8
     ensures { result ≡ kind_number kind }
 {
-    kind as u8
-}
-
-// The kind of that number, if there is one.
-pub fn kind_from_number(number: u8) -> Option<EventKind>
-    ensures { result ≡ kind_at number }
-{
-    match number {
-        1 => Some(EventKind::StreamStart),
-        2 => Some(EventKind::StreamEnd),
-        3 => Some(EventKind::DocumentStart),
-        4 => Some(EventKind::DocumentEnd),
-        5 => Some(EventKind::Alias),
-        6 => Some(EventKind::Scalar),
-        7 => Some(EventKind::SequenceStart),
-        8 => Some(EventKind::SequenceEnd),
-        9 => Some(EventKind::MappingStart),
-        10 => Some(EventKind::MappingEnd),
-        _ => None,
-    }
+    u8::from(kind)
 }
 
 // The number of a source's fault.
 pub fn cause_number(cause: Cause) -> u8
     ensures { result ≡ cause_number cause }
 {
-    match cause {
-        Cause::HeadCut => 11,
-        Cause::HeadNotAllowed => 12,
-        Cause::TextsCut => 13,
-        Cause::ZeroByte => 14,
-        Cause::NotALine => 15,
-    }
+    cause.number()
 }
 
 // The row of the table of allowed events for a kind.
@@ -137,49 +123,74 @@ pub fn limits_of(kind: EventKind) -> Limits
     }
 }
 
-// Whether some event of this kind may have this style, these flags and texts of these lengths.
-pub fn head_allowed(
-    kind: EventKind,
-    style: u8,
-    flags: u8,
-    anchor: usize,
-    tag: usize,
-    value: usize,
-) -> bool
-    ensures { result ≡ within (table kind) style flags anchor tag value }
-{
-    let most = limits_of(kind);
-    style <= most.style
-        && flags <= most.flags
-        && most.least_anchor <= anchor
-        && anchor <= most.anchor
-        && tag <= most.tag
-        && value <= most.value
+impl Shape {
+    // Whether some event may have this kind, style and flags, and texts of these lengths.
+    pub fn is_allowed(self) -> bool
+        ensures { result ≡ shape_allowed self }
+    {
+        let most = limits_of(self.kind);
+        self.style <= most.style
+            && self.flags <= most.flags
+            && most.least_anchor <= self.anchor
+            && self.anchor <= most.anchor
+            && self.tag <= most.tag
+            && self.value <= most.value
+    }
+}
+
+impl<'a> Event<'a> {
+    // The event with its texts by their lengths.
+    pub fn shape(&self) -> Shape
+        ensures { result ≡ shape_of (ev_of self.now) }
+    {
+        Shape {
+            kind: self.kind,
+            style: self.style,
+            flags: self.flags,
+            anchor: self.anchor.len(),
+            tag: self.tag.len(),
+            value: self.value.len(),
+        }
+    }
+
+    // The event as a source gives it, between these marks.
+    pub fn head(&self, start: Mark, end: Mark) -> Head
+        ensures { result ≡ head_with (ev_of self.now) start end }
+    {
+        Head {
+            kind: self.kind,
+            style: self.style,
+            flags: self.flags,
+            anchor: self.anchor.len(),
+            tag: self.tag.len(),
+            value: self.value.len(),
+            start,
+            end,
+        }
+    }
+
+    // One of its texts.
+    pub fn text(&self, text: Text) -> &'a [u8]
+        ensures { result.now ≡ text_of text (ev_of self.now) }
+    {
+        match text {
+            Text::Anchor => self.anchor,
+            Text::Tag => self.tag,
+            Text::Value => self.value,
+        }
+    }
 }
 
 // Whether no byte is zero.
 pub fn zero_free(bytes: &[u8]) -> bool
     ensures { result ≡ zero_free bytes.now }
 {
-    for b in bytes {
-        if *b == 0 {
-            return false;
-        }
-    }
-    true
+    !bytes.contains(&0)
 }
 
 // Whether the event is one that sources give and sinks take.
 pub fn allowed(e: &Event<'_>) -> bool
     ensures { result ≡ allowed_event (ev_of e.now) }
 {
-    let fits = head_allowed(
-        e.kind,
-        e.style,
-        e.flags,
-        e.anchor.len(),
-        e.tag.len(),
-        e.value.len(),
-    );
-    fits && zero_free(e.anchor) && zero_free(e.tag)
+    e.shape().is_allowed() && zero_free(e.anchor) && zero_free(e.tag)
 }

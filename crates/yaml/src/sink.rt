@@ -2,9 +2,11 @@
 ghost use Rattle.std.specs.Prelude.{◌≡◌, ℕ};
 ghost use Rattle.model.specs.Events.{Ev};
 ghost use Rattle.yaml.specs.Shapes.{ev_of};
-ghost use Rattle.yaml.specs.View.{View, Weighs, size_of, Took, refusal_number};
+ghost use Rattle.yaml.specs.View.{View, Weighs, size_of, Took, Fits, refusal_number};
 
 use crate::event::Event;
+use std::error::Error;
+use std::fmt;
 
 // Why a sink does not take an event.
 #[derive(Clone, Copy, PartialEq, Eq, Debug)]
@@ -15,15 +17,36 @@ pub enum Refusal {
     NoSpace { size: usize, space: usize },
 }
 
+impl Refusal {
+    // The number of the refusal.
+    pub fn number(self) -> u8
+        ensures { result ≡ refusal_number self }
+    {
+        match self {
+            Refusal::NotAllowed => 31,
+            Refusal::NoSpace { .. } => 32,
+        }
+    }
+}
+
 // The number of a sink's refusal.
 pub fn refusal_number(refusal: Refusal) -> u8
     ensures { result ≡ refusal_number refusal }
 {
-    match refusal {
-        Refusal::NotAllowed => 31,
-        Refusal::NoSpace { size: _, space: _ } => 32,
+    refusal.number()
+}
+
+// The refusal in words.
+impl fmt::Display for Refusal {
+    fn fmt<W: fmt::Write>(&self, f: &mut fmt::Formatter<W>) -> fmt::Result {
+        f.write_str(match self {
+            Refusal::NotAllowed => "the event is not allowed",
+            Refusal::NoSpace { .. } => "the event is larger than the space left",
+        })
     }
 }
+
+impl Error for Refusal {}
 
 // A sink means the events taken, without marks, and the space left; what an event costs depends on the event alone.
 pub trait Sink {
@@ -45,6 +68,17 @@ pub trait Sink {
     // Takes an allowed event that fits, and nothing else: a refusal alters nothing.
     fn take(&mut self, e: &Event<'_>) -> Result<(), Refusal>
         ensures { Took weight (view self.old) (ev_of e.now) result (view self.new) };
+}
+
+// The size of an event that fits, by its size, if it is allowed, and the space left; else why a sink refuses it.
+pub fn fitting(size: Option<u16>, space: usize) -> Result<usize, Refusal>
+    ensures { Fits size space result }
+{
+    let size = size.ok_or(Refusal::NotAllowed)? as usize;
+    if space < size {
+        return Err(Refusal::NoSpace { size, space });
+    }
+    Ok(size)
 }
 
 // A lent sink is a sink.

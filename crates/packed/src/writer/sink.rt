@@ -7,7 +7,8 @@ ghost use Rattle.packed.specs.Writes.{view_of, weighs as weighs_of, Put, Sizes, 
 
 use super::PackedWriter;
 use crate::head::HEAD;
-use yaml::event::{allowed, kind_number};
+use yaml::event::allowed;
+use yaml::sink::fitting;
 use yaml::{Event, Refusal, Sink};
 
 impl<'a> PackedWriter<'a> {
@@ -20,31 +21,29 @@ impl<'a> PackedWriter<'a> {
         PackedWriter { out, used: 0 }
     }
 
-    // Stores bytes behind those that hold events.
-    fn put(&mut self, at: usize, bytes: &[u8])
+    // Stores bytes at a place that no event holds, and gives the place behind them.
+    fn put(&mut self, at: usize, bytes: &[u8]) -> usize
         requires behind { self.old.used ≤ at }
         requires fits { at + length bytes.now ≤ length self.old.out.now }
-        ensures { Put self.old at bytes.now self.new }
+        ensures { Put self.old at bytes.now result self.new }
     {
-        for i in 0..bytes.len() {
-            self.out[at + i] = bytes[i];
-        }
+        let end = at + bytes.len();
+        let out = &mut *self.out;
+        out[at..end].copy_from_slice(bytes);
+        end
     }
 
-    // Stores the bytes of an event behind those that hold events.
-    fn put_event(&mut self, e: &Event<'_>)
+    // Stores the bytes of an event behind those that hold events, and gives the place behind them.
+    fn put_event(&mut self, e: &Event<'_>) -> usize
         requires allowed { allowed_event (ev_of e.now) ≡ true }
         requires fits { self.old.used + packed_size (ev_of e.now) ≤ length self.old.out.now }
-        ensures { Stored self.old (ev_of e.now) self.new }
+        ensures { Stored self.old (ev_of e.now) result self.new }
     {
         let head = head_bytes(e);
-        let anchor = self.used + HEAD;
-        let tag = anchor + e.anchor.len();
-        let value = tag + e.tag.len();
-        self.put(self.used, &head);
-        self.put(anchor, e.anchor);
-        self.put(tag, e.tag);
-        self.put(value, e.value);
+        let anchor = self.put(self.used, &head);
+        let tag = self.put(anchor, e.anchor);
+        let value = self.put(tag, e.tag);
+        self.put(value, e.value)
     }
 
     // The bytes that hold events.
@@ -56,39 +55,15 @@ impl<'a> PackedWriter<'a> {
     }
 }
 
-// The two bytes of a number, high byte first.
-fn high(n: usize) -> u8
-    requires { n < 65536 }
-    ensures { result ≡ n / 256 }
-{
-    (n / 256) as u8
-}
-
-fn low(n: usize) -> u8
-    ensures { result ≡ n % 256 }
-{
-    (n % 256) as u8
-}
-
 // The head of an event.
-fn head_bytes(e: &Event<'_>) -> [u8; 9]
+fn head_bytes(e: &Event<'_>) -> [u8; HEAD]
     requires { allowed_event (ev_of e.now) ≡ true }
     ensures { result ≡ head_of (ev_of e.now) }
 {
-    let anchor = e.anchor.len();
-    let tag = e.tag.len();
-    let value = e.value.len();
-    [
-        kind_number(e.kind),
-        e.style,
-        e.flags,
-        high(anchor),
-        low(anchor),
-        high(tag),
-        low(tag),
-        high(value),
-        low(value),
-    ]
+    let [a1, a0] = (e.anchor.len() as u16).to_be_bytes();
+    let [t1, t0] = (e.tag.len() as u16).to_be_bytes();
+    let [v1, v0] = (e.value.len() as u16).to_be_bytes();
+    [u8::from(e.kind), e.style, e.flags, a1, a0, t1, t0, v1, v0]
 }
 
 impl<'a> Sink for PackedWriter<'a> {
@@ -110,16 +85,11 @@ impl<'a> Sink for PackedWriter<'a> {
     }
 
     fn take(&mut self, e: &Event<'_>) -> Result<(), Refusal> {
-        let Some(size) = <PackedWriter<'_> as Sink>::size(self, e) else {
-            return Err(Refusal::NotAllowed);
-        };
-        let size = size as usize;
-        let space = <PackedWriter<'_> as Sink>::space(self);
-        if space < size {
-            return Err(Refusal::NoSpace { size, space });
-        }
-        self.put_event(e);
-        self.used += size;
+        fitting(
+            <PackedWriter<'_> as Sink>::size(self, e),
+            <PackedWriter<'_> as Sink>::space(self),
+        )?;
+        self.used = self.put_event(e);
         Ok(())
     }
 }

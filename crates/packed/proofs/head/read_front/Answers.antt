@@ -1,15 +1,15 @@
-use Rattle.std.proofs.Common.{◌≡◌, ◌≤◌, length, rules}
-use Rattle.std.proofs.lemmas.List.{take_rest}
+use Rattle.std.proofs.Common.{◌≡◌, arith, sym}
+use Rattle.std.proofs.lemmas.Grind.{common_steps}
+use Rattle.model.specs.Reading.{event}
+use Rattle.model.proofs.Readings.{front_size}
+use Rattle.yaml.specs.Shapes.{ev_of}
 use Rattle.packed.specs.Packed.{packed_front}
-use Rattle.packed.specs.Ends.{front_of}
-use Rattle.packed.proofs.Nine.{front_nine}
-use Rattle.packed.proofs.Inner.{found_inside}
+use Rattle.packed.specs.Lawful.{packed_format}
 use Rattle.packed.proofs.head.read_front.Goals as goal
 
-pub returns-in-len9-up : goal.returns-in-len9-up
-returns-in-len9-up c =
-    let long : 9 ≤ length c.args.rest.now = search rules in
-    let places = front_nine c.args.rest.now long in
-    let texts = take_rest c.args.rest.now 9 in
-    let same : front_of c.read_head.result ≡ packed_front c.args.rest.now = cc in
-    record { front = same; inside = found_inside c.read_head.result c.args.rest.now same }
+pub returns-in_ok-cut_texts-in-len9-up-clause-inside :
+    goal.returns-in_ok-cut_texts-in-len9-up-clause-inside
+returns-in_ok-cut_texts-in-len9-up-clause-inside c =
+    let found = c.in_ok-cut_texts-in-len9-up.field-0 in
+    let front : event (ev_of found.event) found.size ≡ packed_front c.args.rest.now = grind (arith, common_steps) in
+    front_size packed_format (ev_of found.event) found.size c.args.rest.now (sym front)

@@ -1,4 +1,4 @@
-use Rattle.std.proofs.Common.{◌≡◌, ◌+◌, take, ap, ◌∙◌, arith}
+use Rattle.std.proofs.Common.{take, sym, ◌∙◌, arith}
 use Rattle.yaml.specs.Shapes.{ev_of}
 use Rattle.yaml.proofs.Takes.{sized, taken_more}
 use Rattle.packed.specs.Packed.{size_of}
@@ -10,24 +10,24 @@ pub invariant_of-self : goal.invariant_of-self
 invariant_of-self c =
     let w = c.args.self.now in
     let e = ev_of c.args.e.now in
-    let size = sized size_of e c.in-Some.size c.in-Some.ensures in
-    let stored = c.put_event.ensures in
-    let end : c.put_event.new.self.used + c.in-Some.size ≡ w.used + size_of e = omega arith in
+    let fits = c.in_ok-fitting.ensures in
+    let size = sized size_of e c.in_ok-fitting.field-0 (sym fits.0 ∙ c.size.ensures) in
+    let stored = c.put_event-self.ensures in
     record {
       inside = omega (arith, w.inside);
-      whole = (taken_more packed_format (held w) (take (c.put_event.new.self.used + c.in-Some.size) c.put_event.new.self.out.now) e w.whole size.0 (ap (λ n. take n c.put_event.new.self.out.now) end ∙ stored.bytes)).1;
+      whole = (taken_more packed_format (held w) (take c.put_event-self.result c.put_event-self.new.self.out.now) e w.whole size.0 stored.bytes).1;
     }
 
 pub returns : goal.returns
 returns c =
     let w = c.args.self.now in
     let e = ev_of c.args.e.now in
-    let size = sized size_of e c.in-Some.size c.in-Some.ensures in
-    let stored = c.put_event.ensures in
-    let end : c.put_event.new.self.used + c.in-Some.size ≡ w.used + size_of e = omega arith in
+    let fits = c.in_ok-fitting.ensures in
+    let size = sized size_of e c.in_ok-fitting.field-0 (sym fits.0 ∙ c.size.ensures) in
+    let stored = c.put_event-self.ensures in
     record {
       was_allowed = size.0;
-      fitted = omega (arith, w.inside);
-      appended = (taken_more packed_format (held w) (take (c.put_event.new.self.used + c.in-Some.size) c.put_event.new.self.out.now) e w.whole size.0 (ap (λ n. take n c.put_event.new.self.out.now) end ∙ stored.bytes)).0;
+      fitted = omega arith;
+      appended = (taken_more packed_format (held w) (take c.put_event-self.result c.put_event-self.new.self.out.now) e w.whole size.0 stored.bytes).0;
       fallen = omega (arith, w.inside);
     }
