@@ -5,7 +5,7 @@ use crate::room::full_room;
 use composer::Tables;
 use document::Node;
 use lines::LineReader;
-use loader::{Answer, Loaded, Loader};
+use loader::{Loaded, Loader};
 use packed::PackedReader;
 use std::process::ExitCode;
 use yaml::Source;
@@ -49,13 +49,13 @@ fn check_stream<S: Source + Drop>(
     println!(rt; "document    nodes    links     text  anchors  aliases  deepest")?;
     for document in 1..usize::MAX {
         match loader.load(&mut tables) {
-            Answer::Loaded(loaded) => tell_row(rt, document, &loaded, tables.nodes())?,
-            Answer::Ended => {
+            Ok(Some(loaded)) => tell_row(rt, document, &loaded, tables.nodes())?,
+            Ok(None) => {
                 let documents = document - 1;
                 println!(rt; "the stream ends after {documents} documents")?;
                 return Ok(ExitCode::SUCCESS);
             }
-            Answer::Refused(refusal) => {
+            Err(refusal) => {
                 rt.eprint(load_line(heap, refusal, input.len(), count_events(input))?)?;
                 return Ok(ExitCode::FAILURE);
             }

@@ -6,7 +6,7 @@ use anyhow::anyhow;
 use composer::Tables;
 use document::{Document, Handed, NodeKind};
 use lines::LineReader;
-use loader::{Answer, Loaded, Loader};
+use loader::{Loaded, Loader};
 use packed::PackedReader;
 use std::alloc::{AllocError, Global};
 use std::io::Write;
@@ -227,9 +227,9 @@ fn show_stream<S: Source + Drop>(
     let mut loader = Loader::new(source);
     for document in 1..usize::MAX {
         match loader.load(&mut tables) {
-            Answer::Loaded(loaded) => show_loaded(rt, &tables, &loaded, document)?,
-            Answer::Ended => return Ok(ExitCode::SUCCESS),
-            Answer::Refused(refusal) => {
+            Ok(Some(loaded)) => show_loaded(rt, &tables, &loaded, document)?,
+            Ok(None) => return Ok(ExitCode::SUCCESS),
+            Err(refusal) => {
                 rt.eprint(load_line(heap, refusal, input.len(), count_events(input))?)?;
                 return Ok(ExitCode::FAILURE);
             }

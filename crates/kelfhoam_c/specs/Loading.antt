@@ -1,20 +1,18 @@
 -- The load after some documents.
-use Rattle.std.specs.Prelude.{ℕ, zero, suc, List, None}
+use Rattle.std.specs.Prelude.{ℕ, zero, suc, List, None, Err, Ok, Some}
 use Rattle.model.specs.Reading.{read_all}
 use Rattle.yaml.specs.Flow.{Flow}
 use Rattle.packed.specs.Packed.{packed_front}
 use Rattle.composer.specs.State.{Lengths}
-use Rattle.loader.specs.declared.answer.Answer.{Answer}
-use Rattle.loader.specs.declared.answer.Answer.TheVariants.{Loaded, Ended, Refused}
 use Rattle.loader.specs.declared.answer.Phase.{Phase}
 use Rattle.loader.specs.declared.answer.Phase.TheVariants.{Fresh}
-use Rattle.loader.specs.Loading.{Outcome, loading}
+use Rattle.loader.specs.Loading.{Answer, Outcome, loading}
 
 -- a document is passed over; anything else stands
 abbrev pub unless_loaded : Answer → Outcome → Outcome → Outcome
-unless_loaded (Loaded l) o next = next
-unless_loaded Ended o next = o
-unless_loaded (Refused e) o next = o
+unless_loaded (Ok (Some l)) o next = next
+unless_loaded (Ok None) o next = o
+unless_loaded (Err e) o next = o
 
 -- the load after n documents: each of them is loaded and passed over
 unfoldable pub after_documents : ℕ → Lengths → Phase → Flow → Outcome

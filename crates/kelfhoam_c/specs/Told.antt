@@ -1,5 +1,5 @@
 -- What the calls tell, in records of numbers. Fields that do not belong to the answer are 0.
-use Rattle.std.specs.Prelude.{ℕ, Bool, cond, Ok, Err, Result}
+use Rattle.std.specs.Prelude.{ℕ, Bool, cond, Ok, Err, Result, None, Some}
 use Rattle.model.specs.declared.Mark.{Mark}
 use Rattle.model.specs.Events.{cause_number}
 use Rattle.yaml.specs.declared.sink.Refusal.TheVariants.{NotAllowed, NoSpace}
@@ -10,8 +10,7 @@ use Rattle.composer.specs.declared.refusal.Refusal.{Refusal}
 use Rattle.composer.specs.declared.refusal.Refusal.TheVariants.{EarlierRefused, SourceFault, NoEvent, NotInTurn, UnknownAlias, NodesFull, TextFull, AnchorAgain, AnchorsFull, ChildrenFull, TooDeep}
 use Rattle.composer.specs.Refusals.{refusal_number, refusal_mark}
 use Rattle.loader.specs.declared.answer.Loaded.{Loaded}
-use Rattle.loader.specs.declared.answer.Answer.{Answer}
-use Rattle.loader.specs.declared.answer.Answer.TheVariants.{Loaded as LoadedAnswer, Ended, Refused}
+use Rattle.loader.specs.Loading.{Answer}
 use Rattle.runs.specs.Writer.{why_number}
 use Rattle.dumper.specs.declared.answer.Why.{Why}
 use Rattle.dumper.specs.declared.answer.Why.TheVariants.{AlreadyOpened, NotOpened, Spoilt, Closed, TooFewCounts, TooDeep as DumpTooDeep, TooFewSteps, NoAnchor, Sink}
@@ -25,9 +24,9 @@ flag_of b = cond b 1 0
 
 -- 0 a document, 1 the stream's end, else the refusal's number
 abbrev pub load_number : Answer → ℕ
-load_number (LoadedAnswer l) = 0
-load_number Ended = 1
-load_number (Refused e) = refusal_number e
+load_number (Ok (Some l)) = 0
+load_number (Ok None) = 1
+load_number (Err e) = refusal_number e
 
 -- 27: where the node begins that has the anchor already
 abbrev pub first_mark : Refusal → Mark
@@ -119,9 +118,9 @@ refused_told e = record {
 }
 
 abbrev pub load_told : Answer → LoadTold
-load_told (LoadedAnswer l) = loaded_told l
-load_told Ended = no_load
-load_told (Refused e) = refused_told e
+load_told (Ok (Some l)) = loaded_told l
+load_told (Ok None) = no_load
+load_told (Err e) = refused_told e
 
 -- 58 and 59: the node; 59: the size of the event that did not fit, and the space
 abbrev pub node_in : Why → ℕ

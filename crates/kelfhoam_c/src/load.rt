@@ -7,19 +7,23 @@ ghost use Rattle.kelfhoam_c.specs.Told.{load_number, load_told};
 use crate::told::{LoadTold, load_number, tell_load};
 use composer::Tables;
 use document::Node;
-use loader::{Anchor, Answer, Loader};
+use loader::{Anchor, Loaded, Loader, Refusal};
 use packed::PackedReader;
 use yaml::Source;
 
 // The load after `skip` documents: documents before it are loaded and forgotten again.
-fn load_after<S: Source>(loader: &mut Loader<S>, tables: &mut Tables<'_>, skip: u64) -> Answer
+fn load_after<S: Source>(
+    loader: &mut Loader<S>,
+    tables: &mut Tables<'_>,
+    skip: u64,
+) -> Result<Option<Loaded>, Refusal>
     ensures { result ≡ (after_documents skip (lengths_of tables.old) loader.old.phase (S.Source.flow loader.old.source)).answer }
 {
     for passed in 0..skip {
         match loader.load(tables) {
-            Answer::Loaded(_) => {}
-            Answer::Ended => return Answer::Ended,
-            Answer::Refused(refusal) => return Answer::Refused(refusal),
+            Ok(Some(_)) => {}
+            Ok(None) => return Ok(None),
+            Err(refusal) => return Err(refusal),
         }
     }
     loader.load(tables)

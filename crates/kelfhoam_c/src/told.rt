@@ -6,7 +6,7 @@ ghost use Rattle.kelfhoam_c.specs.Told.{flag_of, load_number, first_mark, fault_
 use composer::{refusal_mark, refusal_number};
 use document::question_number;
 use dumper::{Refused, Why, why_number};
-use loader::{Answer, Loaded, Refusal};
+use loader::{Loaded, Refusal};
 use model::Mark;
 use yaml::event::cause_number;
 
@@ -167,24 +167,24 @@ pub fn tell_refused(refusal: Refusal) -> LoadTold
 }
 
 // What a load tells.
-pub fn tell_load(answer: Answer) -> LoadTold
+pub fn tell_load(answer: Result<Option<Loaded>, Refusal>) -> LoadTold
     ensures { result ≡ load_told answer }
 {
     match answer {
-        Answer::Loaded(loaded) => tell_loaded(loaded),
-        Answer::Ended => no_load(),
-        Answer::Refused(refusal) => tell_refused(refusal),
+        Ok(Some(loaded)) => tell_loaded(loaded),
+        Ok(None) => no_load(),
+        Err(refusal) => tell_refused(refusal),
     }
 }
 
 // The number of a load's answer: 0 a document, 1 the stream's end, else the refusal's.
-pub fn load_number(answer: Answer) -> u32
+pub fn load_number(answer: Result<Option<Loaded>, Refusal>) -> u32
     ensures { result ≡ load_number answer }
 {
     match answer {
-        Answer::Loaded(_) => 0,
-        Answer::Ended => 1,
-        Answer::Refused(refusal) => refusal_number(refusal) as u32,
+        Ok(Some(_)) => 0,
+        Ok(None) => 1,
+        Err(refusal) => refusal_number(refusal) as u32,
     }
 }
 

@@ -1,5 +1,5 @@
 -- The loop over a document's events: at each turn the run from here is the run from the start.
-use Rattle.std.proofs.Common.{◌≡◌, true, false, List, [], Some, Option, sym, refl, ap, ◌∙◌}
+use Rattle.std.proofs.Common.{◌≡◌, true, false, List, [], Some, Option, sym, refl, ap, ◌∙◌, Ok}
 use Rattle.std.proofs.lemmas.Bool.{cond-true, cond-false}
 use Rattle.model.specs.declared.Fault.{Fault}
 use Rattle.model.specs.declared.EventKind.TheVariants.{DocumentStart}
@@ -13,7 +13,6 @@ use Rattle.composer.specs.State.{St, Spaces, blank}
 use Rattle.composer.specs.Steps.{taking}
 use Rattle.composer.specs.Holding.{state_of, base_of, Sound, Done, Denied}
 use Rattle.convert.proofs.Going.{latest_is}
-use Rattle.loader.specs.declared.answer.Answer.TheVariants.{Loaded as LoadedAnswer}
 use Rattle.loader.specs.declared.answer.Loaded.{Loaded}
 use Rattle.loader.specs.declared.answer.Phase.TheVariants.{Between}
 use Rattle.loader.specs.Loading.{kept, flowing, missing, refused, over, complete, counted, stepped, is_document_end, running, between, begun}
@@ -79,7 +78,7 @@ module _ (sp : Spaces) (start : Marked) (f₀ : Flow) (t₀ : Tables) (f : Flow)
     going_done t' d end l is = record {
       told = onward ∙ ap (λ r. stepped r start c.one f' (λ s. running_on sp start f' s)) d.state
           ∙ cond-true _ (complete start c.one (state_of t') f') (running_on sp start f' (state_of t')) (sym kind_told ∙ end)
-          ∙ ap (λ x. record { answer = LoadedAnswer x; holds = kept (state_of t'); phase = Between; flow = f' }) (sym is);
+          ∙ ap (λ x. record { answer = Ok (Some x); holds = kept (state_of t'); phase = Between; flow = f' }) (sym is);
       base = d.base ∙ going.base;
       sound = d.sound;
     }

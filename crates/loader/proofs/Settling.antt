@@ -1,5 +1,5 @@
 -- What the tables hold after a load, entry by entry.
-use Rattle.std.proofs.Common.{◌≡◌, ℕ, List, sym, refl, ap, ◌∙◌, subst}
+use Rattle.std.proofs.Common.{◌≡◌, ℕ, List, sym, refl, ap, ◌∙◌, Err, Ok, Some}
 use Rattle.tables.specs.declared.stack.Stack.{Stack}
 use Rattle.tables.specs.Stacks.{contents, room_of, Clean}
 use Rattle.tables.proofs.Clean.{clean_table}
@@ -11,12 +11,10 @@ use Rattle.composer.specs.Names.{empty_anchor}
 use Rattle.composer.specs.State.{Lengths, Spaces, spaces_for}
 use Rattle.composer.specs.Holding.{state_of, lengths_of, spaces_of, base_of, Base, Sound, Emptied, Forgot}
 use Rattle.loader.specs.declared.answer.Loaded.{Loaded}
-use Rattle.loader.specs.declared.answer.Answer.{Answer}
-use Rattle.loader.specs.declared.answer.Answer.TheVariants.{Loaded as LoadedAnswer, Ended as EndedAnswer, Refused}
 use Rattle.loader.specs.declared.answer.Phase.{Phase}
 use Rattle.loader.specs.declared.answer.Phase.TheVariants.{Fresh, Between, Ended, Spoilt}
-use Rattle.loader.specs.Loading.{Outcome, loading, filled}
-use Rattle.loader.specs.Loads.{loading_on, WithDocument, AtEnd, WithRefusal, ComesTo, Loads}
+use Rattle.loader.specs.Loading.{Answer, Outcome, loading, filled}
+use Rattle.loader.specs.Loads.{loading_on, WithDocument, WithRefusal, ComesTo, Loads}
 
 whole : {X : Type 0} (empty : X) (s : Stack X) (room : ℕ) (xs : List X) → Clean empty s → room_of s ≡ room → contents s ≡ xs → s.items.now ≡ filled room empty xs
 whole empty s room xs c r h = clean_table empty s c ∙ (λ i. filled (r i) empty (h i))
@@ -51,21 +49,15 @@ module _ (before first : Tables) (sp : Spaces) (phase : Phase) (f : Flow) (empti
   outcome = same_loading (lengths_of before) sp phase f (spaced ∙ ap (λ (b : Base). spaces_for b.lengths) emptied.base)
 
   pub loads_document : (l : Loaded) (f' : Flow) (full after : Tables) → WithDocument (loading_on sp phase f) sp first l full f' → Forgot full after
-      → Loads phase f before (LoadedAnswer l) Between f' after
+      → Loads phase f before (Ok (Some l)) Between f' after
   loads_document l f' full after w g =
-      settled (loading (lengths_of before) phase f) before after sp (LoadedAnswer l) Between f'
-      (outcome ∙ w.told ∙ ap (λ s. record { answer = LoadedAnswer l; holds = s; phase = Between; flow = f' }) (sym g.state))
+      settled (loading (lengths_of before) phase f) before after sp (Ok (Some l)) Between f'
+      (outcome ∙ w.told ∙ ap (λ s. record { answer = Ok (Some l); holds = s; phase = Between; flow = f' }) (sym g.state))
       (g.base ∙ (w.base ∙ emptied.base)) (g.sound sp w.sound)
 
-  pub loads_end : (f' : Flow) (after : Tables) → AtEnd (loading_on sp phase f) first after f' → Loads phase f before EndedAnswer Ended f' after
-  loads_end f' after w =
-      settled (loading (lengths_of before) phase f) before after (spaces_of before) EndedAnswer Ended f'
-      (outcome ∙ w.told ∙ ap (λ s. record { answer = EndedAnswer; holds = s; phase = Ended; flow = f' }) (sym (ap state_of w.same ∙ emptied.state)))
-      (ap base_of w.same ∙ emptied.base) (subst (Sound (spaces_of before)) (sym w.same) emptied.sound)
-
   pub loads_refusal : (e : Refusal) (f' : Flow) (full after : Tables) → WithRefusal (loading_on sp phase f) first e full f' → Emptied full after
-      → Loads phase f before (Refused e) Spoilt f' after
+      → Loads phase f before (Err e) Spoilt f' after
   loads_refusal e f' full after w g =
-      settled (loading (lengths_of before) phase f) before after (spaces_of full) (Refused e) Spoilt f'
-      (outcome ∙ w.told ∙ ap (λ s. record { answer = Refused e; holds = s; phase = Spoilt; flow = f' }) (sym g.state))
+      settled (loading (lengths_of before) phase f) before after (spaces_of full) (Err e) Spoilt f'
+      (outcome ∙ w.told ∙ ap (λ s. record { answer = Err e; holds = s; phase = Spoilt; flow = f' }) (sym g.state))
       (g.base ∙ (w.base ∙ emptied.base)) g.sound

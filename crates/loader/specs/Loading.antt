@@ -11,10 +11,12 @@ use Rattle.composer.specs.declared.refusal.Refusal.TheVariants.{EarlierRefused, 
 use Rattle.composer.specs.State.{St, blank, Lengths, Spaces, spaces_for}
 use Rattle.composer.specs.Steps.{taking}
 use Rattle.loader.specs.declared.answer.Loaded.{Loaded}
-use Rattle.loader.specs.declared.answer.Answer.{Answer}
-use Rattle.loader.specs.declared.answer.Answer.TheVariants.{Loaded as LoadedAnswer, Ended as EndedAnswer, Refused}
 use Rattle.loader.specs.declared.answer.Phase.{Phase}
 use Rattle.loader.specs.declared.answer.Phase.TheVariants.{Fresh, Between, Ended, Spoilt}
+
+-- what a load answers: a document's counts, or none at the stream's end, or why it is refused
+abbrev pub Answer : Type 0
+Answer = Result (Option Loaded) Refusal
 
 -- what a load comes to: the answer, what the tables hold before their empty entries, the loader's next phase, what is left of the source
 pub record Outcome : Type 0 where
@@ -27,7 +29,7 @@ abbrev pub flowing : Option Ev → List Marked → Option Fault → Flow
 flowing latest ms after = record { latest = latest; coming = record { events = ms; after = after } }
 
 abbrev pub refused : Refusal → Flow → Outcome
-refused e f = record { answer = Refused e; holds = blank; phase = Spoilt; flow = f }
+refused e f = record { answer = Err e; holds = blank; phase = Spoilt; flow = f }
 
 -- 21 and 22: no event is there
 abbrev pub missing : Option Fault → Refusal
@@ -55,7 +57,7 @@ abbrev pub kept : St → St
 kept s = record { nodes = s.nodes; links = s.links; text = s.text; anchors = []; waiting = []; frames = [] }
 
 abbrev pub complete : Marked → Marked → St → Flow → Outcome
-complete start end s f = record { answer = LoadedAnswer (counted start end s); holds = kept s; phase = Between; flow = f }
+complete start end s f = record { answer = Ok (Some (counted start end s)); holds = kept s; phase = Between; flow = f }
 
 abbrev pub is_document_end : EventKind → Bool
 is_document_end StreamStart = false
@@ -81,7 +83,7 @@ running sp start after latest s (m ∷ ms) =
     stepped (taking sp m s) start m (flowing (Some m.event) ms after) (λ t. running sp start after (Some m.event) t ms)
 
 abbrev pub stream_ended : Flow → Outcome
-stream_ended f = record { answer = EndedAnswer; holds = blank; phase = Ended; flow = f }
+stream_ended f = record { answer = Ok None; holds = blank; phase = Ended; flow = f }
 
 -- between documents: a document's start, or the stream's end
 abbrev pub begun : EventKind → Spaces → Option Fault → Marked → List Marked → Outcome

@@ -1,5 +1,5 @@
 -- How the loader's code relates to the definition of loading.
-use Rattle.std.specs.Prelude.{◌≡◌, [], Ok, Err, Result}
+use Rattle.std.specs.Prelude.{◌≡◌, [], Ok, Err, Result, None, Some}
 use Rattle.model.specs.Reading.{Marked}
 use Rattle.yaml.specs.declared.event.Head.{Head}
 use Rattle.yaml.specs.Shapes.{head_of}
@@ -14,11 +14,9 @@ use Rattle.composer.specs.State.{St, Spaces}
 use Rattle.composer.specs.Holding.{state_of, lengths_of, base_of, Sound}
 use Rattle.convert.specs.Copies.{latest_event}
 use Rattle.loader.specs.declared.answer.Loaded.{Loaded}
-use Rattle.loader.specs.declared.answer.Answer.{Answer}
-use Rattle.loader.specs.declared.answer.Answer.TheVariants.{Loaded as LoadedAnswer, Ended as EndedAnswer, Refused}
 use Rattle.loader.specs.declared.answer.Phase.{Phase}
 use Rattle.loader.specs.declared.answer.Phase.TheVariants.{Fresh, Between, Ended, Spoilt}
-use Rattle.loader.specs.Loading.{kept, Outcome, missing, refused, stream_ended, running, between, fresh, loading, filled}
+use Rattle.loader.specs.Loading.{Answer, kept, Outcome, missing, refused, stream_ended, running, between, fresh, loading, filled}
 
 -- an event came, and its head is told
 pub record HeadCame (before : Flow) (h : Head) (after : Flow) : Type 0 where
@@ -62,7 +60,7 @@ loading_on sp Spoilt f = refused EarlierRefused f
 
 -- the outcome is a document, which the tables hold
 pub record WithDocument (o : Outcome) (sp : Spaces) (before : Tables) (l : Loaded) (after : Tables) (f : Flow) : Type 0 where
-  pub told : o ≡ record { answer = LoadedAnswer l; holds = kept (state_of after); phase = Between; flow = f }
+  pub told : o ≡ record { answer = Ok (Some l); holds = kept (state_of after); phase = Between; flow = f }
   pub base : base_of after ≡ base_of before
   pub sound : Sound sp after
 
@@ -76,10 +74,16 @@ pub record WithRefusal (o : Outcome) (before : Tables) (e : Refusal) (after : Ta
   pub told : o ≡ refused e f
   pub base : base_of after ≡ base_of before
 
+-- what comes of the events within a document
+abbrev pub Runs : Outcome → Spaces → Tables → Result Loaded Refusal → Tables → Flow → Type 0
+Runs o sp before (Ok l) after f = WithDocument o sp before l after f
+Runs o sp before (Err e) after f = WithRefusal o before e after f
+
+-- what comes of a load
 abbrev pub Ends : Outcome → Spaces → Tables → Answer → Tables → Flow → Type 0
-Ends o sp before (LoadedAnswer l) after f = WithDocument o sp before l after f
-Ends o sp before EndedAnswer after f = AtEnd o before after f
-Ends o sp before (Refused e) after f = WithRefusal o before e after f
+Ends o sp before (Ok (Some l)) after f = WithDocument o sp before l after f
+Ends o sp before (Ok None) after f = AtEnd o before after f
+Ends o sp before (Err e) after f = WithRefusal o before e after f
 
 -- One load: the answer, every entry of the five tables, the loader's phase and what is left of the source are those of the outcome; the tables are the same ones.
 pub record ComesTo (o : Outcome) (before : Tables) (answer : Answer) (phase : Phase) (f : Flow) (after : Tables) : Type 0 where

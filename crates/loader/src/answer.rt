@@ -1,5 +1,4 @@
-// What a load answers.
-use composer::Refusal;
+// What a load gives, and where a loader is.
 use model::Mark;
 
 // A document stands in the tables: how many entries of each it took, its flags and its marks.
@@ -15,15 +14,6 @@ pub struct Loaded {
     // where its start event begins and its end event ends
     pub start: Mark,
     pub end: Mark,
-}
-
-#[must_use]
-#[derive(Clone, Copy)]
-pub enum Answer {
-    Loaded(Loaded),
-    // the stream has ended
-    Ended,
-    Refused(Refusal),
 }
 
 // Where a loader is in its stream.

@@ -15,13 +15,8 @@ use yaml::{Event, Head, Source, Text};
 pub fn next_head<S: Source>(source: &mut S) -> Result<Head, Refusal>
     ensures { Next (S.Source.flow source.old) result (S.Source.flow source.new) }
 {
-    match source.next_event() {
-        Ok(next) => match next {
-            Some(head) => Ok(head),
-            None => Err(Refusal::NoEvent),
-        },
-        Err(fault) => Err(Refusal::SourceFault(fault)),
-    }
+    let next = source.next_event().map_err(Refusal::SourceFault)?;
+    next.ok_or(Refusal::NoEvent)
 }
 
 // The latest event of a source, whose head is told, as one event of a document.

@@ -6,6 +6,6 @@ pub mod events;
 pub mod loader;
 pub mod stream;
 
-pub use answer::{Answer, Loaded, Phase};
+pub use answer::{Loaded, Phase};
 pub use composer::{Anchor, Refusal, Tables};
 pub use loader::Loader;

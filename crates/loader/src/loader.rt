@@ -3,9 +3,9 @@ ghost use Rattle.std.specs.Prelude.{◌≡◌};
 ghost use Rattle.loader.specs.declared.answer.Phase.TheVariants.{Fresh};
 ghost use Rattle.loader.specs.Loads.{Loads};
 
-use crate::answer::{Answer, Phase};
+use crate::answer::{Loaded, Phase};
 use crate::stream::load_from;
-use composer::Tables;
+use composer::{Refusal, Tables};
 use yaml::Source;
 
 #[derive(Drop)]
@@ -25,27 +25,24 @@ impl<S: Source> Loader<S> {
         }
     }
 
-    // Loads the next document into the tables, which are emptied first; tells the stream's end; or refuses.
-    pub fn load(&mut self, tables: &mut Tables<'_>) -> Answer
+    // Loads the next document into the tables, which are emptied first; answers None at the stream's end, or refuses.
+    pub fn load(&mut self, tables: &mut Tables<'_>) -> Result<Option<Loaded>, Refusal>
         ensures { Loads self.old.phase (S.Source.flow self.old.source) tables.old result self.new.phase (S.Source.flow self.new.source) tables.new }
     {
         tables.wipe();
         let spaces = tables.spaces();
-        match load_from(self.phase, &mut self.source, spaces, tables) {
-            Answer::Loaded(loaded) => {
+        let answer = load_from(self.phase, &mut self.source, spaces, tables);
+        match answer {
+            Ok(Some(_)) => {
                 tables.forget();
                 self.phase = Phase::Between;
-                Answer::Loaded(loaded)
             }
-            Answer::Ended => {
-                self.phase = Phase::Ended;
-                Answer::Ended
-            }
-            Answer::Refused(refusal) => {
+            Ok(None) => self.phase = Phase::Ended,
+            Err(_) => {
                 tables.wipe();
                 self.phase = Phase::Spoilt;
-                Answer::Refused(refusal)
             }
         }
+        answer
     }
 }

@@ -3,9 +3,9 @@ ghost use Rattle.std.specs.Prelude.{◌≡◌, ◌≤◌, length};
 ghost use Rattle.composer.specs.State.{blank};
 ghost use Rattle.composer.specs.Holding.{Sound, state_of};
 ghost use Rattle.loader.specs.Loading.{is_document_end};
-ghost use Rattle.loader.specs.Loads.{Ends, running_on, between_on, fresh_on, loading_on, start_marked};
+ghost use Rattle.loader.specs.Loads.{Ends, Runs, running_on, between_on, fresh_on, loading_on, start_marked};
 
-use crate::answer::{Answer, Loaded, Phase};
+use crate::answer::{Loaded, Phase};
 use crate::events::{next_head, take_event};
 use composer::{Refusal, Spaces, Tables};
 use model::EventKind;
@@ -29,23 +29,18 @@ fn load_nodes<S: Source>(
     value: &mut [u8],
     spaces: Spaces,
     tables: &mut Tables<'_>,
-) -> Answer
+) -> Result<Loaded, Refusal>
     requires anchor { 64 ≤ length anchor.old }
     requires tag { 256 ≤ length tag.old }
     requires value { 4096 ≤ length value.old }
     requires sound { Sound spaces tables.old }
-    ensures { Ends (running_on spaces (start_marked begin.now) (S.Source.flow source.old) (state_of tables.old)) spaces tables.old result tables.new (S.Source.flow source.new) }
+    ensures { Runs (running_on spaces (start_marked begin.now) (S.Source.flow source.old) (state_of tables.old)) spaces tables.old result tables.new (S.Source.flow source.new) }
 {
     loop {
-        let head = match next_head(source) {
-            Ok(head) => head,
-            Err(refusal) => return Answer::Refused(refusal),
-        };
-        if let Err(refusal) = take_event(source, &head, anchor, tag, value, spaces, tables) {
-            return Answer::Refused(refusal);
-        }
+        let head = next_head(source)?;
+        take_event(source, &head, anchor, tag, value, spaces, tables)?;
         if is_document_end(head.kind) {
-            return Answer::Loaded(Loaded {
+            return Ok(Loaded {
                 nodes: tables.node_count(),
                 links: tables.link_count(),
                 text: tables.text_count(),
@@ -60,21 +55,22 @@ fn load_nodes<S: Source>(
 }
 
 // Between documents: a whole document, or the stream's end.
-fn load_document<S: Source>(source: &mut S, spaces: Spaces, tables: &mut Tables<'_>) -> Answer
+fn load_document<S: Source>(
+    source: &mut S,
+    spaces: Spaces,
+    tables: &mut Tables<'_>,
+) -> Result<Option<Loaded>, Refusal>
     requires sound { Sound spaces tables.old }
     requires blank { state_of tables.old ≡ blank }
     ensures { Ends (between_on spaces (S.Source.flow source.old)) spaces tables.old result tables.new (S.Source.flow source.new) }
 {
-    let head = match next_head(source) {
-        Ok(head) => head,
-        Err(refusal) => return Answer::Refused(refusal),
-    };
+    let head = next_head(source)?;
     match head.kind {
         EventKind::DocumentStart => {
             let mut anchor = [0u8; 64];
             let mut tag = [0u8; 256];
             let mut value = [0u8; 4096];
-            load_nodes(
+            let loaded = load_nodes(
                 source,
                 &head,
                 &mut anchor,
@@ -82,26 +78,28 @@ fn load_document<S: Source>(source: &mut S, spaces: Spaces, tables: &mut Tables<
                 &mut value,
                 spaces,
                 tables,
-            )
+            )?;
+            Ok(Some(loaded))
         }
-        EventKind::StreamEnd => Answer::Ended,
-        _ => Answer::Refused(Refusal::NotInTurn { at: head.start }),
+        EventKind::StreamEnd => Ok(None),
+        _ => Err(Refusal::NotInTurn { at: head.start }),
     }
 }
 
 // Before the stream's start.
-fn load_stream<S: Source>(source: &mut S, spaces: Spaces, tables: &mut Tables<'_>) -> Answer
+fn load_stream<S: Source>(
+    source: &mut S,
+    spaces: Spaces,
+    tables: &mut Tables<'_>,
+) -> Result<Option<Loaded>, Refusal>
     requires sound { Sound spaces tables.old }
     requires blank { state_of tables.old ≡ blank }
     ensures { Ends (fresh_on spaces (S.Source.flow source.old)) spaces tables.old result tables.new (S.Source.flow source.new) }
 {
-    let head = match next_head(source) {
-        Ok(head) => head,
-        Err(refusal) => return Answer::Refused(refusal),
-    };
+    let head = next_head(source)?;
     match head.kind {
         EventKind::StreamStart => load_document(source, spaces, tables),
-        _ => Answer::Refused(Refusal::NotInTurn { at: head.start }),
+        _ => Err(Refusal::NotInTurn { at: head.start }),
     }
 }
 
@@ -111,7 +109,7 @@ pub fn load_from<S: Source>(
     source: &mut S,
     spaces: Spaces,
     tables: &mut Tables<'_>,
-) -> Answer
+) -> Result<Option<Loaded>, Refusal>
     requires sound { Sound spaces tables.old }
     requires blank { state_of tables.old ≡ blank }
     ensures { Ends (loading_on spaces phase (S.Source.flow source.old)) spaces tables.old result tables.new (S.Source.flow source.new) }
@@ -119,7 +117,7 @@ pub fn load_from<S: Source>(
     match phase {
         Phase::Fresh => load_stream(source, spaces, tables),
         Phase::Between => load_document(source, spaces, tables),
-        Phase::Ended => Answer::Ended,
-        Phase::Spoilt => Answer::Refused(Refusal::EarlierRefused),
+        Phase::Ended => Ok(None),
+        Phase::Spoilt => Err(Refusal::EarlierRefused),
     }
 }

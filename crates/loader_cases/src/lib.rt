@@ -4,7 +4,7 @@
 use composer::refusal::Refusal;
 use composer::{Anchor, Tables, refusal_mark, refusal_number};
 use document::{Document, Handed, Node};
-use loader::{Answer, Loader};
+use loader::{Loaded, Loader};
 use packed::PackedReader;
 use tables::Empty;
 
@@ -98,19 +98,19 @@ pub struct Came {
     pub second: u64,
 }
 
-pub fn summary(answer: Answer) -> Came {
+pub fn summary(answer: Result<Option<Loaded>, Refusal>) -> Came {
     match answer {
-        Answer::Loaded(loaded) => Came {
+        Ok(Some(loaded)) => Came {
             number: 0,
             first: loaded.nodes as u64,
             second: loaded.links as u64,
         },
-        Answer::Ended => Came {
+        Ok(None) => Came {
             number: 1,
             first: 0,
             second: 0,
         },
-        Answer::Refused(refusal) => Came {
+        Err(refusal) => Came {
             number: refusal_number(refusal),
             first: refusal_mark(refusal).index,
             second: match refusal {
@@ -206,7 +206,7 @@ pub fn loads(input: &Input, sizes: Sizes, n: usize) -> (Came, usize, bool) {
             let answer = loader.load(&mut tables);
             last = summary(answer);
             let count = match answer {
-                Answer::Loaded(loaded) => loaded.nodes,
+                Ok(Some(loaded)) => loaded.nodes,
                 _ => 0,
             };
             stands = passes(tables.nodes(), tables.links(), tables.text(), count);

@@ -1,5 +1,5 @@
 -- A document is loaded exactly where its events compose, with space all the way.
-use Rattle.std.proofs.Common.{◌≡◌, ℕ, true, false, cond, List, [], ◌∷◌, ◌++◌, map, Some, Option, sym, refl, ap, ◌∙◌, subst, arith}
+use Rattle.std.proofs.Common.{◌≡◌, ℕ, true, false, cond, List, [], ◌∷◌, ◌++◌, map, Some, Option, sym, refl, ap, ◌∙◌, subst, arith, Err}
 use Rattle.std.proofs.lemmas.List.{append_assoc, map-append}
 use Rattle.std.proofs.lemmas.Bool.{and_parts}
 use Rattle.model.specs.declared.Fault.{Fault}
@@ -11,7 +11,6 @@ use Rattle.serial.proofs.Unique.{takes_append}
 use Rattle.composer.specs.declared.frames.Frame.{Frame}
 use Rattle.composer.specs.State.{St, blank, Spaces}
 use Rattle.composer.specs.Steps.{ends_document}
-use Rattle.loader.specs.declared.answer.Answer.TheVariants.{Refused}
 use Rattle.loader.specs.Loading.{is_document_end, flowing, complete, counted, missing, stepped, running}
 use Rattle.loads.specs.Tidy.{root_of, open_ones_of, composed_of, Tidy}
 use Rattle.loads.specs.Runs.{Went}
@@ -103,7 +102,7 @@ composed_loads sp start after latest es rest last g ok c fit ends =
       is = ran_loaded sp start after latest blank r.to es rest last r.went ends (whole_ends r.to c.end_state r.stands c.complete);
     }
 
-stops : (sp : Spaces) (start : Marked) (after : Option Fault) (latest : Option Ev) {s t : St} {es : List Marked} → Went sp s es t → (running sp start after latest s es).answer ≡ Refused (missing after)
+stops : (sp : Spaces) (start : Marked) (after : Option Fault) (latest : Option Ev) {s t : St} {es : List Marked} → Went sp s es t → (running sp start after latest s es).answer ≡ Err (missing after)
 unfolding running
 stops sp start after latest Went.none = refl
 stops sp start after latest (Went.more {t = u} {m = m} {ms = ms} other is went) =

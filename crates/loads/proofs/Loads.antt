@@ -1,5 +1,5 @@
 -- One load, whole.
-use Rattle.std.proofs.Common.{◌≡◌, ℕ, true, cond, List, [], ◌∷◌, ◌++◌, map, Some, Option, sym, refl, ap, ◌∙◌, subst, inl, inr, arith}
+use Rattle.std.proofs.Common.{◌≡◌, ℕ, true, cond, List, [], ◌∷◌, ◌++◌, map, Some, Option, sym, refl, ap, ◌∙◌, subst, inl, inr, arith, Ok}
 use Rattle.std.proofs.lemmas.Bool.{and_parts, cases_Bool}
 use Rattle.model.specs.declared.EventKind.{EventKind}
 use Rattle.model.specs.declared.EventKind.TheVariants.{StreamStart, StreamEnd, DocumentStart, DocumentEnd, Alias, Scalar, SequenceStart, SequenceEnd, MappingStart, MappingEnd}
@@ -12,7 +12,6 @@ use Rattle.serial.proofs.Soundness.{composed_sound}
 use Rattle.serial.proofs.Unique.{one_document}
 use Rattle.composer.specs.State.{St, blank, Lengths, Spaces, spaces_for}
 use Rattle.loader.specs.declared.answer.Loaded.{Loaded}
-use Rattle.loader.specs.declared.answer.Answer.TheVariants.{Loaded as LoadedAnswer}
 use Rattle.loader.specs.declared.answer.Phase.{Phase}
 use Rattle.loader.specs.declared.answer.Phase.TheVariants.{Fresh, Between, Ended, Spoilt}
 use Rattle.loader.specs.Loading.{flowing, refused, counted, begun, between, is_stream_start, fresh, running}
@@ -33,7 +32,7 @@ limited : (n : Lengths) → Limited (spaces_for n)
 limited n = record { nodes = omega arith; links = omega arith; text = omega arith }
 
 gave : (n : Lengths) (p : Phase) (f : Flow) (before : List Marked) (start : Marked) (ms : List Marked) (latest : Option Ev) (l : Loaded) → Opens p before → f.coming.events ≡ before ++ start ∷ ms → start.event.kind ≡ DocumentStart
-    → all_allowed (map bare ms) ≡ true → (running (spaces_for n) start f.coming.after latest blank ms).answer ≡ LoadedAnswer l → GivenDocument p f l (running (spaces_for n) start f.coming.after latest blank ms)
+    → all_allowed (map bare ms) ≡ true → (running (spaces_for n) start f.coming.after latest blank ms).answer ≡ Ok (Some l) → GivenDocument p f l (running (spaces_for n) start f.coming.after latest blank ms)
 gave n p f before start ms latest l opens is kind ok h =
     let sp : Spaces = spaces_for n in
     let after : Option Fault = f.coming.after in
@@ -47,7 +46,7 @@ gave n p f before start ms latest l opens is kind ok h =
       complete = whole_open t.frames t.nodes t.waiting r.whole;
       result = refl;
     } in
-    let same : LoadedAnswer l ≡ LoadedAnswer (counted start r.last t) = sym h ∙ ap (λ o. o.answer) r.is in
+    let same : Ok (Some l) ≡ Ok (Some (counted start r.last t)) = sym h ∙ ap (λ o. o.answer) r.is in
     let count : l ≡ counted start r.last t = cc in
     subst (GivenDocument p f l) (sym r.is) (record {
       before = before;
@@ -74,7 +73,7 @@ gave n p f before start ms latest l opens is kind ok h =
     })
 
 by_kind : (k : EventKind) (n : Lengths) (p : Phase) (f : Flow) (before : List Marked) (m : Marked) (ms : List Marked) (l : Loaded) → m.event.kind ≡ k → Opens p before → f.coming.events ≡ before ++ m ∷ ms → all_allowed (map bare ms) ≡ true
-    → (begun k (spaces_for n) f.coming.after m ms).answer ≡ LoadedAnswer l → GivenDocument p f l (begun k (spaces_for n) f.coming.after m ms)
+    → (begun k (spaces_for n) f.coming.after m ms).answer ≡ Ok (Some l) → GivenDocument p f l (begun k (spaces_for n) f.coming.after m ms)
 by_kind StreamStart n p f before m ms l is opens parts ok h = let z : ◌≡◌ {A = ℕ} 0 1 = cc in absurd (omega (arith, z))
 by_kind StreamEnd n p f before m ms l is opens parts ok h = let z : ◌≡◌ {A = ℕ} 0 1 = cc in absurd (omega (arith, z))
 by_kind DocumentStart n p f before m ms l is opens parts ok h = gave n p f before m ms (Some m.event) l opens parts is ok h
@@ -87,7 +86,7 @@ by_kind MappingStart n p f before m ms l is opens parts ok h = let z : ◌≡◌
 by_kind MappingEnd n p f before m ms l is opens parts ok h = let z : ◌≡◌ {A = ℕ} 0 1 = cc in absurd (omega (arith, z))
 
 from_between : (n : Lengths) (p : Phase) (f : Flow) (before ms : List Marked) (latest : Option Ev) (l : Loaded) → Opens p before → f.coming.events ≡ before ++ ms → all_allowed (map bare ms) ≡ true
-    → (between (spaces_for n) f.coming.after latest ms).answer ≡ LoadedAnswer l → GivenDocument p f l (between (spaces_for n) f.coming.after latest ms)
+    → (between (spaces_for n) f.coming.after latest ms).answer ≡ Ok (Some l) → GivenDocument p f l (between (spaces_for n) f.coming.after latest ms)
 from_between n p f before [] latest l opens is ok h = let z : ◌≡◌ {A = ℕ} 0 1 = cc in absurd (omega (arith, z))
 from_between n p f before (m ∷ ms) latest l opens is ok h =
     by_kind m.event.kind n p f before m ms l refl opens is (and_parts (allowed m.event) (all_allowed (map bare ms)) ok).1 h
@@ -105,7 +104,7 @@ starts_stream MappingStart h = let z : ◌≡◌ {A = ℕ} 0 1 = cc in absurd (o
 starts_stream MappingEnd h = let z : ◌≡◌ {A = ℕ} 0 1 = cc in absurd (omega (arith, z))
 
 from_fresh : (n : Lengths) (f : Flow) (ms : List Marked) (l : Loaded) → f.coming.events ≡ ms → all_allowed (map bare ms) ≡ true
-    → (fresh (spaces_for n) f.coming.after f.latest ms).answer ≡ LoadedAnswer l → GivenDocument Fresh f l (fresh (spaces_for n) f.coming.after f.latest ms)
+    → (fresh (spaces_for n) f.coming.after f.latest ms).answer ≡ Ok (Some l) → GivenDocument Fresh f l (fresh (spaces_for n) f.coming.after f.latest ms)
 from_fresh n f [] l is ok h = let z : ◌≡◌ {A = ℕ} 0 1 = cc in absurd (omega (arith, z))
 from_fresh n f (m ∷ ms) l is ok h = elim (cases_Bool (is_stream_start m.event.kind)) [
   | inl t ↦ rw t (from_between n Fresh f (m ∷ []) ms (Some m.event) l (m, starts_stream m.event.kind t, refl) is (and_parts (allowed m.event) (all_allowed (map bare ms)) ok).1 (rw t at h))

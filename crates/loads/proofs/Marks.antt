@@ -17,7 +17,6 @@ use Rattle.composer.specs.declared.refusal.Refusal.TheVariants.{NotInTurn}
 use Rattle.composer.specs.Names.{found}
 use Rattle.composer.specs.State.{St, blank, Spaces}
 use Rattle.composer.specs.Steps.{in_turn, alias_of, value_for, node_from, node_step, opening, start_step, linked, closing, closed_by, taken}
-use Rattle.loader.specs.declared.answer.Answer.TheVariants.{Loaded as LoadedAnswer}
 use Rattle.loader.specs.Loading.{counted}
 use Rattle.loads.specs.Tidy.{AllOpen, Tidy}
 use Rattle.loads.specs.Runs.{Went, none, more}
@@ -101,7 +100,7 @@ pub loaded_marks : LoadedMarks
 loaded_marks sp start after latest ms l ok h =
     let r = loaded_ran sp start after latest blank ms l h in
     let spans = went_spans sp (front_allowed r.events (r.last ∷ r.rest) r.parts ok) blank_tidy r.went in
-    let same : LoadedAnswer l ≡ LoadedAnswer (counted start r.last r.end_state) = sym h ∙ ap (λ o. o.answer) r.is in
+    let same : Ok (Some l) ≡ Ok (Some (counted start r.last r.end_state)) = sym h ∙ ap (λ o. o.answer) r.is in
     let count : l ≡ counted start r.last r.end_state = cc in
     record {
       events = r.events;

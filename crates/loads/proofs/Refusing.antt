@@ -20,7 +20,6 @@ use Rattle.composer.specs.declared.refusal.Refusal.TheVariants.{NotInTurn, Unkno
 use Rattle.composer.specs.Names.{found, entry_of}
 use Rattle.composer.specs.State.{St, blank, Spaces}
 use Rattle.composer.specs.Steps.{next, in_turn, with_child, adding_to, alias_of, value_for, node_from, noding, start_of, with_anchor, naming_by, registering, adding_newest, naming_adding, node_step, is_mapping, with_frame, opened, opening, start_step, closing, taken, taking}
-use Rattle.loader.specs.declared.answer.Answer.TheVariants.{Refused}
 use Rattle.loader.specs.Loading.{is_document_end, missing, flowing, stepped, running}
 use Rattle.loads.specs.Tidy.{composed_of, Tidy}
 use Rattle.loads.specs.Runs.{Went, none, more}
@@ -310,9 +309,9 @@ record Short (sp : Spaces) (after : Option Fault) (s : St) (ms : List Marked) (e
 
 module _ (sp : Spaces) (start : Marked) (after : Option Fault) where
   one_refused : (s : St) (m : Marked) (ms : List Marked) (e : Refusal) → allowed m.event ≡ true → Tidy s
-      → ((t : St) → Tidy t → (running sp start after (Some m.event) t ms).answer ≡ Refused e → First sp t ms e ⊎ Short sp after t ms e)
+      → ((t : St) → Tidy t → (running sp start after (Some m.event) t ms).answer ≡ Err e → First sp t ms e ⊎ Short sp after t ms e)
       → (r : Result St Refusal) → taking sp m s ≡ r
-      → (stepped r start m (flowing (Some m.event) ms after) (λ t. running sp start after (Some m.event) t ms)).answer ≡ Refused e → First sp s (m ∷ ms) e ⊎ Short sp after s (m ∷ ms) e
+      → (stepped r start m (flowing (Some m.event) ms after) (λ t. running sp start after (Some m.event) t ms)).answer ≡ Err e → First sp s (m ∷ ms) e ⊎ Short sp after s (m ∷ ms) e
   one_refused s m ms e ok tidy on (Err f) is h =
       let q : f ≡ e = cc in
       inl (record { events = []; at = m; rest = ms; state = s; parts = refl; went = none; why = subst (Why sp m s) q (because sp m s f ok tidy is) })
@@ -325,7 +324,7 @@ module _ (sp : Spaces) (start : Marked) (after : Option Fault) where
   ]
 
 refused_from : (sp : Spaces) (start : Marked) (after : Option Fault) (latest : Option Ev) (ms : List Marked) (e : Refusal) (s : St) → all_allowed (map bare ms) ≡ true → Tidy s
-    → (running sp start after latest s ms).answer ≡ Refused e → First sp s ms e ⊎ Short sp after s ms e
+    → (running sp start after latest s ms).answer ≡ Err e → First sp s ms e ⊎ Short sp after s ms e
 unfolding running
 refused_from sp start after latest [] e s ok tidy h = let q : e ≡ missing after = cc in inr (record { state = s; went = none; is = q })
 refused_from sp start after latest (m ∷ ms) e s ok tidy h =

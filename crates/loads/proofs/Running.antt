@@ -16,7 +16,6 @@ use Rattle.composer.specs.declared.refusal.Refusal.TheVariants.{NotInTurn}
 use Rattle.composer.specs.State.{St, blank, Spaces}
 use Rattle.composer.specs.Steps.{ends_document, in_turn, taken, taking}
 use Rattle.loader.specs.declared.answer.Loaded.{Loaded}
-use Rattle.loader.specs.declared.answer.Answer.TheVariants.{Loaded as LoadedAnswer}
 use Rattle.loader.specs.Loading.{is_document_end, flowing, complete, stepped, running}
 use Rattle.loads.specs.Tidy.{root_of, open_ones_of, composed_of}
 use Rattle.loads.specs.Runs.{Went, none, more, graph_in, Ran, LoadedRan, RanLoaded, WentComposes, LoadComposes}
@@ -47,9 +46,9 @@ end_ok sp m s t h e =
 
 module _ (sp : Spaces) (start : Marked) (after : Option Fault) where
   ran_one : (latest : Option Ev) (s : St) (m : Marked) (ms : List Marked) (l : Loaded)
-      → ((t : St) → (running sp start after (Some m.event) t ms).answer ≡ LoadedAnswer l → Ran sp start after t ms (running sp start after (Some m.event) t ms))
+      → ((t : St) → (running sp start after (Some m.event) t ms).answer ≡ Ok (Some l) → Ran sp start after t ms (running sp start after (Some m.event) t ms))
       → (r : Result St Refusal) → taking sp m s ≡ r
-      → (stepped r start m (flowing (Some m.event) ms after) (λ t. running sp start after (Some m.event) t ms)).answer ≡ LoadedAnswer l
+      → (stepped r start m (flowing (Some m.event) ms after) (λ t. running sp start after (Some m.event) t ms)).answer ≡ Ok (Some l)
       → Ran sp start after s (m ∷ ms) (stepped r start m (flowing (Some m.event) ms after) (λ t. running sp start after (Some m.event) t ms))
   ran_one latest s m ms l on (Err e) is h = let z : ◌≡◌ {A = ℕ} 0 1 = cc in absurd (omega (arith, z))
   ran_one latest s m ms l on (Ok t) is h = elim (cases_Bool (is_document_end m.event.kind)) [

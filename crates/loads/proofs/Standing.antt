@@ -24,7 +24,6 @@ use Rattle.composer.specs.Names.{found}
 use Rattle.composer.specs.State.{St, blank, Spaces}
 use Rattle.composer.specs.Steps.{in_turn, alias_of, kind_number, value_for, node_from, node_step, opening, start_step, linked, closing, closed_by, taken}
 use Rattle.loader.specs.Loading.{kept, counted}
-use Rattle.loader.specs.declared.answer.Answer.TheVariants.{Loaded as LoadedAnswer}
 use Rattle.loads.specs.Tidy.{last_of, before_last, Placed, Tidy, AllOpen, collection_kind}
 use Rattle.loads.specs.Runs.{Went, none, more}
 use Rattle.loads.specs.Room.{Within}
@@ -194,7 +193,7 @@ pub loaded_stands : LoadedStands
 loaded_stands sp start after latest ms l vs ls ts limit ok h =
     let r = loaded_ran sp start after latest blank ms l h in
     let left = went_left sp (front_allowed r.events (r.last ∷ r.rest) r.parts ok) (blank_left sp) r.went in
-    let same : LoadedAnswer l ≡ LoadedAnswer (counted start r.last r.end_state) = sym h ∙ ap (λ o. o.answer) r.is in
+    let same : Ok (Some l) ≡ Ok (Some (counted start r.last r.end_state)) = sym h ∙ ap (λ o. o.answer) r.is in
     let count : l ≡ counted start r.last r.end_state = cc in
     subst (λ o. Stands (handed (o.holds.nodes ++ vs) (o.holds.links ++ ls) (o.holds.text ++ ts) l.nodes) o.holds) (sym r.is)
     (stands sp r.end_state l.nodes vs ls ts limit left (ap (λ q. q.nodes) count))

@@ -1,5 +1,5 @@
 -- One load, whole: what it gives where a document is loaded, and where it does.
-use Rattle.std.specs.Prelude.{◌≡◌, ℕ, ◌≤◌, true, List, [], ◌∷◌, ◌++◌, map, length, Some, Option, ◌==◌}
+use Rattle.std.specs.Prelude.{◌≡◌, ℕ, ◌≤◌, true, List, [], ◌∷◌, ◌++◌, map, length, Some, Option, ◌==◌, Ok}
 use Rattle.model.specs.declared.EventKind.TheVariants.{StreamStart, DocumentStart}
 use Rattle.model.specs.declared.Fault.{Fault}
 use Rattle.model.specs.Events.{Ev, all_allowed}
@@ -14,7 +14,6 @@ use Rattle.serial.specs.Compose.{Composes}
 use Rattle.serial.specs.RoundTrip.{Sound}
 use Rattle.composer.specs.State.{blank, Lengths, spaces_for}
 use Rattle.loader.specs.declared.answer.Loaded.{Loaded}
-use Rattle.loader.specs.declared.answer.Answer.TheVariants.{Loaded as LoadedAnswer}
 use Rattle.loader.specs.declared.answer.Phase.{Phase}
 use Rattle.loader.specs.declared.answer.Phase.TheVariants.{Fresh, Between, Ended, Spoilt}
 use Rattle.loader.specs.Loading.{Outcome, flowing, running, is_document_end, loading}
@@ -58,7 +57,7 @@ pub record GivenDocument (p : Phase) (f : Flow) (l : Loaded) (o : Outcome) : Typ
 
 abbrev pub LoadGives : Type 0
 LoadGives = (n : Lengths) (p : Phase) (f : Flow) (l : Loaded) → all_allowed (map bare f.coming.events) ≡ true
-    → (loading n p f).answer ≡ LoadedAnswer l → GivenDocument p f l (loading n p f)
+    → (loading n p f).answer ≡ Ok (Some l) → GivenDocument p f l (loading n p f)
 
 -- a document that comes next is run, between documents and after the stream's start
 pub record RunsNext (n : Lengths) (latest : Option Ev) (after : Option Fault) (start : Marked) (ms : List Marked) : Type 0 where

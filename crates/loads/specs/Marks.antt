@@ -1,5 +1,5 @@
 -- Where the nodes begin and end, told by the events alone.
-use Rattle.std.specs.Prelude.{◌≡◌, ℕ, zero, suc, true, List, [], ◌∷◌, ◌++◌, map, length, Option}
+use Rattle.std.specs.Prelude.{◌≡◌, ℕ, zero, suc, true, List, [], ◌∷◌, ◌++◌, map, length, Option, Ok, Some}
 use Rattle.model.specs.declared.EventKind.{EventKind}
 use Rattle.model.specs.declared.EventKind.TheVariants.{StreamStart, StreamEnd, DocumentStart, DocumentEnd, Alias, Scalar, SequenceStart, SequenceEnd, MappingStart, MappingEnd}
 use Rattle.model.specs.declared.Mark.{Mark}
@@ -9,7 +9,6 @@ use Rattle.model.specs.Reading.{Marked, bare}
 use Rattle.document.specs.declared.node.Node.{Node}
 use Rattle.composer.specs.State.{blank, Spaces}
 use Rattle.loader.specs.declared.answer.Loaded.{Loaded}
-use Rattle.loader.specs.declared.answer.Answer.TheVariants.{Loaded as LoadedAnswer}
 use Rattle.loader.specs.Loading.{Outcome, running}
 
 -- where each node begins and ends, and the places, from 0, of the open collections, innermost first
@@ -70,4 +69,4 @@ pub record MarkedNodes (start : Marked) (ms : List Marked) (l : Loaded) (o : Out
 
 abbrev pub LoadedMarks : Type 0
 LoadedMarks = (sp : Spaces) (start : Marked) (after : Option Fault) (latest : Option Ev) (ms : List Marked) (l : Loaded) → all_allowed (map bare ms) ≡ true
-    → (running sp start after latest blank ms).answer ≡ LoadedAnswer l → MarkedNodes start ms l (running sp start after latest blank ms)
+    → (running sp start after latest blank ms).answer ≡ Ok (Some l) → MarkedNodes start ms l (running sp start after latest blank ms)

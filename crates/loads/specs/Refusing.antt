@@ -17,7 +17,6 @@ use Rattle.composer.specs.declared.refusal.Refusal.{Refusal}
 use Rattle.composer.specs.declared.refusal.Refusal.TheVariants.{NotInTurn, UnknownAlias, NodesFull, TextFull, AnchorAgain, AnchorsFull, ChildrenFull, TooDeep}
 use Rattle.composer.specs.State.{St, blank, Spaces}
 use Rattle.composer.specs.Steps.{start_of, taking}
-use Rattle.loader.specs.declared.answer.Answer.TheVariants.{Refused}
 use Rattle.loader.specs.Loading.{missing, running}
 use Rattle.loads.specs.Tidy.{composed_of, Tidy}
 use Rattle.loads.specs.Runs.{Went}
@@ -126,4 +125,4 @@ pub record CameShort (sp : Spaces) (after : Option Fault) (ms : List Marked) (e 
 
 abbrev pub RunRefused : Type 0
 RunRefused = (sp : Spaces) (start : Marked) (after : Option Fault) (latest : Option Ev) (ms : List Marked) (e : Refusal) → all_allowed (map bare ms) ≡ true
-    → (running sp start after latest blank ms).answer ≡ Refused e → FirstRefused sp ms e ⊎ CameShort sp after ms e
+    → (running sp start after latest blank ms).answer ≡ Err e → FirstRefused sp ms e ⊎ CameShort sp after ms e

@@ -1,5 +1,5 @@
 -- How much there may be while a document is composed, and loading exactly where there is no more.
-use Rattle.std.specs.Prelude.{◌≡◌, suc, ◌+◌, ◌≤◌, true, List, [], ◌∷◌, ◌++◌, map, length, Some, Ok, Option}
+use Rattle.std.specs.Prelude.{◌≡◌, suc, ◌+◌, ◌≤◌, true, List, [], ◌∷◌, ◌++◌, map, length, Some, Ok, Option, Err}
 use Rattle.model.specs.declared.Fault.{Fault}
 use Rattle.model.specs.Events.{Ev, allowed, all_allowed}
 use Rattle.model.specs.Graph.{Vertex}
@@ -9,7 +9,6 @@ use Rattle.serial.specs.Stocks.{all_text, waiting, stock}
 use Rattle.composer.specs.State.{St, blank, Spaces}
 use Rattle.composer.specs.Steps.{taking}
 use Rattle.loader.specs.declared.answer.Loaded.{Loaded}
-use Rattle.loader.specs.declared.answer.Answer.TheVariants.{Loaded as LoadedAnswer, Refused}
 use Rattle.yaml.specs.Flow.{Flow}
 use Rattle.loader.specs.Loading.{Outcome, is_document_end, flowing, missing, complete, running}
 use Rattle.loads.specs.Tidy.{composed_of, Tidy}
@@ -71,8 +70,8 @@ pub record LoadableFront (sp : Spaces) (ms : List Marked) : Type 0 where
 
 -- a document is loaded exactly where that is so
 pub record ExactlyLoaded (sp : Spaces) (start : Marked) (after : Option Fault) (latest : Option Ev) (ms : List Marked) : Type 0 where
-  pub loaded : LoadableFront sp ms → (l : Loaded) × ((running sp start after latest blank ms).answer ≡ LoadedAnswer l)
-  pub only : (l : Loaded) → (running sp start after latest blank ms).answer ≡ LoadedAnswer l → LoadableFront sp ms
+  pub loaded : LoadableFront sp ms → (l : Loaded) × ((running sp start after latest blank ms).answer ≡ Ok (Some l))
+  pub only : (l : Loaded) → (running sp start after latest blank ms).answer ≡ Ok (Some l) → LoadableFront sp ms
 
 abbrev pub LoadedExactly : Type 0
 LoadedExactly = (sp : Spaces) (start : Marked) (after : Option Fault) (latest : Option Ev) (ms : List Marked) → all_allowed (map bare ms) ≡ true → ExactlyLoaded sp start after latest ms
@@ -98,4 +97,4 @@ ComposedLoads = (sp : Spaces) (start : Marked) (after : Option Fault) (latest : 
 abbrev pub StopsWithin : Type 0
 StopsWithin = (sp : Spaces) (start : Marked) (after : Option Fault) (latest : Option Ev) (es : List Marked) (c : Composed)
     → all_allowed (map bare es) ≡ true → TakesAll beginning (map bare es) c → EventsFit sp (map bare es)
-    → (running sp start after latest blank es).answer ≡ Refused (missing after)
+    → (running sp start after latest blank es).answer ≡ Err (missing after)

@@ -9,7 +9,6 @@ use Rattle.serial.specs.Compose.{TakesAll, Composes}
 use Rattle.composer.specs.State.{St, blank, Spaces}
 use Rattle.composer.specs.Steps.{ends_document, taking}
 use Rattle.loader.specs.declared.answer.Loaded.{Loaded}
-use Rattle.loader.specs.declared.answer.Answer.TheVariants.{Loaded as LoadedAnswer}
 use Rattle.loader.specs.Loading.{Outcome, is_document_end, flowing, complete, running}
 use Rattle.loads.specs.Tidy.{composed_of, Tidy}
 
@@ -36,7 +35,7 @@ pub record Ran (sp : Spaces) (start : Marked) (after : Option Fault) (s : St) (m
 
 abbrev pub LoadedRan : Type 0
 LoadedRan = (sp : Spaces) (start : Marked) (after : Option Fault) (latest : Option Ev) (s : St) (ms : List Marked) (l : Loaded)
-    → (running sp start after latest s ms).answer ≡ LoadedAnswer l → Ran sp start after s ms (running sp start after latest s ms)
+    → (running sp start after latest s ms).answer ≡ Ok (Some l) → Ran sp start after s ms (running sp start after latest s ms)
 
 -- and the other way round
 abbrev pub RanLoaded : Type 0
@@ -64,4 +63,4 @@ pub record Loads (ms : List Marked) (o : Outcome) : Type 0 where
 
 abbrev pub LoadComposes : Type 0
 LoadComposes = (sp : Spaces) (start : Marked) (after : Option Fault) (latest : Option Ev) (ms : List Marked) (l : Loaded) → all_allowed (map bare ms) ≡ true
-    → (running sp start after latest blank ms).answer ≡ LoadedAnswer l → Loads ms (running sp start after latest blank ms)
+    → (running sp start after latest blank ms).answer ≡ Ok (Some l) → Loads ms (running sp start after latest blank ms)

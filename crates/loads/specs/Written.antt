@@ -1,5 +1,5 @@
 -- Loading the events that a document was serialized to.
-use Rattle.std.specs.Prelude.{◌≡◌, ℕ, ◌≤◌, true, List, ◌∷◌, ◌++◌, map, length, Some, Option}
+use Rattle.std.specs.Prelude.{◌≡◌, ℕ, ◌≤◌, true, List, ◌∷◌, ◌++◌, map, length, Some, Option, Err}
 use Rattle.model.specs.declared.Fault.{Fault}
 use Rattle.model.specs.Events.{Ev, all_allowed}
 use Rattle.model.specs.Graph.{Vertex, Book, Alike}
@@ -10,7 +10,6 @@ use Rattle.serial.specs.Serialize.{walk_events}
 use Rattle.serial.specs.RoundTrip.{Sound, Tells, with_nodes}
 use Rattle.serial.specs.Stocks.{all_links, all_text}
 use Rattle.composer.specs.State.{blank, Spaces}
-use Rattle.loader.specs.declared.answer.Answer.TheVariants.{Refused}
 use Rattle.loader.specs.Loading.{Outcome, is_document_end, flowing, missing, running}
 use Rattle.loads.specs.Room.{LoadedAs}
 
@@ -40,4 +39,4 @@ abbrev pub WalkStops : Type 0
 WalkStops = (sp : Spaces) (start : Marked) (after : Option Fault) (latest : Option Ev) (es : List Marked) (later : List Ev)
     → (b : Book) (ts : List Token) (seen : List ℕ) (anchors : ℕ → List ℕ) → Sound b.nodes → Walk b.nodes 256 ts seen → Tells anchors ts → SpaceFor sp b.nodes
     → all_allowed (walk_events anchors b.nodes ts) ≡ true → map bare es ++ later ≡ walk_events anchors b.nodes ts
-    → (running sp start after latest blank es).answer ≡ Refused (missing after)
+    → (running sp start after latest blank es).answer ≡ Err (missing after)

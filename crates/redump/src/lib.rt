@@ -4,7 +4,7 @@
 use composer::Tables;
 use document::{Document, Handed};
 use dumper::{Refused, Writer};
-use loader::{Answer, Loaded, Loader, Refusal};
+use loader::{Loaded, Loader, Refusal};
 use walk::{Counted, Step};
 use yaml::{Sink, Source};
 
@@ -101,14 +101,14 @@ fn redump_documents<S: Source, K: Sink>(
 ) -> Outcome {
     for _ in 0..usize::MAX {
         match loader.load(tables) {
-            Answer::Loaded(loaded) => {
+            Ok(Some(loaded)) => {
                 match dump_loaded(writer, tables, &loaded, counting, steps, totals) {
                     Outcome::Done => {}
                     other => return other,
                 }
             }
-            Answer::Ended => return Outcome::Done,
-            Answer::Refused(refusal) => return Outcome::Load(refusal),
+            Ok(None) => return Outcome::Done,
+            Err(refusal) => return Outcome::Load(refusal),
         }
     }
     Outcome::Done

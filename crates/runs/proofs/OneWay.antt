@@ -1,5 +1,5 @@
 -- What a sink took reads back in one way only.
-use Rattle.std.proofs.Common.{◌≡◌, ℕ, Bool, true, false, List, [], ◌∷◌, map, None, refl, ap, subst, arith}
+use Rattle.std.proofs.Common.{◌≡◌, ℕ, Bool, true, false, List, [], ◌∷◌, map, None, refl, ap, subst, arith, Ok, Some}
 use Rattle.std.specs.List.{AllZip}
 use Rattle.model.specs.Events.{Ev}
 use Rattle.model.specs.Reading.{Marked, bare}
@@ -9,10 +9,8 @@ use Rattle.yaml.specs.Flow.{Flow}
 use Rattle.document.specs.Empty.{zero_mark}
 use Rattle.composer.specs.State.{Lengths}
 use Rattle.loader.specs.declared.answer.Loaded.{Loaded}
-use Rattle.loader.specs.declared.answer.Answer.{Answer}
-use Rattle.loader.specs.declared.answer.Answer.TheVariants.{Loaded as LoadedAnswer}
 use Rattle.loader.specs.declared.answer.Phase.{Phase}
-use Rattle.loader.specs.Loading.{Outcome, loading, flowing}
+use Rattle.loader.specs.Loading.{Answer, Outcome, loading, flowing}
 use Rattle.runs.specs.ReadBack.{FullSized, book_loaded, Gives, LoadsBack, took_end, last_answer, OneReading}
 
 -- a source of some events
@@ -30,7 +28,7 @@ full_sized : FullSized full
 full_sized = record { nodes = omega arith; links = omega arith; text = omega arith; anchors = omega arith; waiting = omega arith }
 
 -- a document is not the last answer
-not_last : (b : Bool) (c : Loaded) (a : Answer) → a ≡ LoadedAnswer c → a ≡ last_answer b → ⊥
+not_last : (b : Bool) (c : Loaded) (a : Answer) → a ≡ Ok (Some c) → a ≡ last_answer b → ⊥
 not_last true c a p q = let z : ◌≡◌ {A = ℕ} 0 1 = cc in omega arith
 not_last false c a p q = let z : ◌≡◌ {A = ℕ} 0 1 = cc in omega arith
 

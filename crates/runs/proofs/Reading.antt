@@ -1,5 +1,5 @@
 -- What the sink holds reads back.
-use Rattle.std.proofs.Common.{◌≡◌, ℕ, ◌-◌, Bool, true, false, cond, eqb, List, [], ◌∷◌, ◌++◌, map, length, replicate, Some, None, Option, sym, refl, ap, ◌∙◌, subst, ap₂, arith}
+use Rattle.std.proofs.Common.{◌≡◌, ℕ, ◌-◌, Bool, true, false, cond, eqb, List, [], ◌∷◌, ◌++◌, map, length, replicate, Some, None, Option, sym, refl, ap, ◌∙◌, subst, ap₂, arith, Err, Ok}
 use Rattle.std.specs.List.{flat_map}
 use Rattle.std.proofs.lemmas.List.{append_assoc, map-append}
 use Rattle.std.proofs.lemmas.Bool.{cond-true, and_parts, and_from}
@@ -14,11 +14,9 @@ use Rattle.document.specs.Check.{handed}
 use Rattle.composer.specs.declared.refusal.Refusal.TheVariants.{NoEvent}
 use Rattle.composer.specs.State.{St, blank, Lengths, spaces_for}
 use Rattle.loader.specs.declared.answer.Loaded.{Loaded}
-use Rattle.loader.specs.declared.answer.Answer.{Answer}
-use Rattle.loader.specs.declared.answer.Answer.TheVariants.{Ended as EndedAnswer, Refused}
 use Rattle.loader.specs.declared.answer.Phase.{Phase}
 use Rattle.loader.specs.declared.answer.Phase.TheVariants.{Fresh, Between}
-use Rattle.loader.specs.Loading.{kept, loading, running, begun, flowing, complete, counted, is_stream_start, is_document_end}
+use Rattle.loader.specs.Loading.{Answer, kept, loading, running, begun, flowing, complete, counted, is_stream_start, is_document_end}
 use Rattle.loads.specs.Standing.{Stands}
 use Rattle.loads.proofs.Standing.{loaded_stands}
 use Rattle.loads.specs.Room.{EventsFit, LoadedAs}
@@ -134,17 +132,17 @@ gives_all others last ok base (p ∷ ps) latest ms e = λ l full.
     (sym (ap (λ q. loading l Between (flowing latest q None)) shape ∙ r.2)) (r.1, later)
 
 -- after the documents: nothing, the stream's end, or the beginning of one document more
-pub then_nothing : (latest : Option Ev) (ms : List Marked) → map bare ms ≡ [] → LoadsBack Between (flowing latest ms None) [] (Refused NoEvent)
+pub then_nothing : (latest : Option Ev) (ms : List Marked) → map bare ms ≡ [] → LoadsBack Between (flowing latest ms None) [] (Err NoEvent)
 then_nothing latest ms e = λ l full. ap (λ q. (loading l Between (flowing latest q None)).answer) (none_left ms e)
 
-pub then_end : (latest : Option Ev) (ms : List Marked) → map bare ms ≡ stream_end ∷ [] → LoadsBack Between (flowing latest ms None) [] EndedAnswer
+pub then_end : (latest : Option Ev) (ms : List Marked) → map bare ms ≡ stream_end ∷ [] → LoadsBack Between (flowing latest ms None) [] (Ok None)
 then_end latest ms e = λ l full.
     let r = headed ms stream_end [] e in
     ap (λ q. (loading l Between (flowing latest q None)).answer) r.all
     ∙ ap (λ k. (begun k (spaces_for l) None r.head r.tail).answer) (ap (λ x. x.kind) r.head_is)
 
 pub then_broken : (p : Piece) (came later : List Ev) → came ++ later ≡ inner_of p
-    → (latest : Option Ev) (ms : List Marked) → map bare ms ≡ start_of p ∷ came → LoadsBack Between (flowing latest ms None) [] (Refused NoEvent)
+    → (latest : Option Ev) (ms : List Marked) → map bare ms ≡ start_of p ∷ came → LoadsBack Between (flowing latest ms None) [] (Err NoEvent)
 then_broken p came later split latest ms e = λ l full.
     let r = headed ms (start_of p) came e in
     let taken = front_taken (back p).composes.taken_in came later (sym split) in

@@ -1,5 +1,5 @@
 -- Reading back what a sink took: one loader loads again and again, each time with full-sized tables.
-use Rattle.std.specs.Prelude.{◌≡◌, ◌≤◌, Bool, true, false, ◌||◌, List, [], ◌∷◌, None, ◌==◌}
+use Rattle.std.specs.Prelude.{◌≡◌, ◌≤◌, Bool, true, false, ◌||◌, List, [], ◌∷◌, None, ◌==◌, Err, Ok, Some}
 use Rattle.std.specs.List.{AllZip}
 use Rattle.model.specs.declared.EventKind.TheVariants.{StreamEnd}
 use Rattle.model.specs.Events.{Ev, kind_number}
@@ -12,11 +12,9 @@ use Rattle.document.specs.Books.{book_on}
 use Rattle.composer.specs.declared.refusal.Refusal.TheVariants.{NoEvent}
 use Rattle.composer.specs.State.{St, Lengths}
 use Rattle.loader.specs.declared.answer.Loaded.{Loaded}
-use Rattle.loader.specs.declared.answer.Answer.{Answer}
-use Rattle.loader.specs.declared.answer.Answer.TheVariants.{Loaded as LoadedAnswer, Ended as EndedAnswer, Refused}
 use Rattle.loader.specs.declared.answer.Phase.{Phase}
 use Rattle.loader.specs.declared.answer.Phase.TheVariants.{Fresh}
-use Rattle.loader.specs.Loading.{Outcome, loading, filled}
+use Rattle.loader.specs.Loading.{Answer, Outcome, loading, filled}
 
 -- each table has all that its limit allows
 pub record FullSized (l : Lengths) : Type 0 where
@@ -37,7 +35,7 @@ book_loaded l c s = book_on (tables_after l c s) c.start_implicit c.end_implicit
 -- a load into tables of these lengths gave a document: the tables pass the check, and the Document on them is alike by paths to this one
 pub record Gives (b : Book) (l : Lengths) (o : Outcome) : Type 0 where
   pub counts : Loaded
-  pub loaded : o.answer ≡ LoadedAnswer counts
+  pub loaded : o.answer ≡ Ok (Some counts)
   pub stands : Fit (tables_after l counts o.holds)
   pub alike : Alike b (book_loaded l counts o.holds)
 
@@ -54,8 +52,8 @@ took_end (e ∷ es) = kind_number e.kind == kind_number StreamEnd || took_end es
 
 -- after the documents: ended where the stream's end was taken, else refusal 22, that no event is there
 abbrev pub last_answer : Bool → Answer
-last_answer true = EndedAnswer
-last_answer false = Refused NoEvent
+last_answer true = Ok None
+last_answer false = Err NoEvent
 
 -- A fresh loader, over any source whose events to come are what the sink took, marks free, and then nothing, gives exactly these documents.
 abbrev pub ReadsBack : List Ev → List Book → Type 0

@@ -5,7 +5,7 @@ use document::limits::MAX_NODES;
 use document::{Document, Handed, NodeKind};
 use dumper::{Refused, Why, Writer, why_number};
 use lines::LineWriter;
-use loader::{Answer, Loaded, Loader, Refusal};
+use loader::{Loaded, Loader, Refusal};
 use packed::PackedReader;
 use std::alloc::AllocError;
 use walk::{Counted, Step};
@@ -153,15 +153,15 @@ fn tell_loads<K: Sink>(
     let mut loader = Loader::new(PackedReader::new(list));
     for _ in 0..list.len().saturating_add(1) {
         match loader.load(tables) {
-            Answer::Loaded(loaded) => tell_document(out, tables, &loaded, writer, counting, steps)?,
-            Answer::Ended => {
+            Ok(Some(loaded)) => tell_document(out, tables, &loaded, writer, counting, steps)?,
+            Ok(None) => {
                 put(out, b"ended\n")?;
                 if let Err(refused) = writer.close() {
                     tell_why(out, refused)?;
                 }
                 return Ok(());
             }
-            Answer::Refused(refusal) => return tell_refusal(out, refusal),
+            Err(refusal) => return tell_refusal(out, refusal),
         }
     }
     Ok(())

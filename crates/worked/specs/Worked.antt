@@ -1,5 +1,5 @@
 -- Examples of loading and dumping, worked out to the end.
-use Rattle.std.specs.Prelude.{◌≡◌, ℕ, true, false, List, [], ◌∷◌, ◌++◌, length, None, codes}
+use Rattle.std.specs.Prelude.{◌≡◌, ℕ, true, false, List, [], ◌∷◌, ◌++◌, length, None, codes, Ok, Some}
 use Rattle.model.specs.declared.NodeKind.TheVariants.{Scalar, Sequence}
 use Rattle.model.specs.Graph.{Vertex, Book}
 use Rattle.model.specs.Reading.{read_all, write_all}
@@ -12,7 +12,6 @@ use Rattle.serial.specs.Numbering.{name}
 use Rattle.serial.specs.Serialize.{default_tag, book_events}
 use Rattle.composer.specs.State.{Lengths}
 use Rattle.loader.specs.declared.answer.Loaded.{Loaded}
-use Rattle.loader.specs.declared.answer.Answer.TheVariants.{Loaded as LoadedAnswer, Ended as EndedAnswer}
 use Rattle.loader.specs.declared.answer.Phase.TheVariants.{Fresh}
 use Rattle.loader.specs.Loading.{Outcome, loading}
 use Rattle.loads.specs.Runs.{graph_in}
@@ -75,9 +74,9 @@ empty = record { nodes = []; start_implicit = false; end_implicit = false }
 
 pub record Worked : Type 0 where
   -- the book is loaded, and the stream then ends
-  pub is_book_loaded : (l : Loaded) × (load₁.answer ≡ LoadedAnswer l)
+  pub is_book_loaded : (l : Loaded) × (load₁.answer ≡ Ok (Some l))
   pub book_graph : graph_in load₁.holds ≡ book.nodes
-  pub book_over : load₂.answer ≡ EndedAnswer
+  pub book_over : load₂.answer ≡ Ok None
   -- dumped into lines, and closed
   pub book_walk : Walk book.nodes 256 book_tokens (2 ∷ (1 ∷ []))
   pub are_book_lines : write_all line_of (stream_start ∷ (book_events book book_tokens ++ stream_end ∷ [])) ≡ book_lines
