@@ -1,22 +1,12 @@
 -- Reading and writing in any format undo one another.
-use Rattle.std.proofs.Common.{◌≡◌, ℕ, zero, suc, pred, ◌+◌, ◌≤◌, Bool, true, false, ◌&&◌, List, [], ◌∷◌, ◌++◌, length, take, drop, Some, None, Option, sym, refl, ap, ◌∙◌, ap₂, add-zero, arith}
+use Rattle.std.proofs.Common.{◌≡◌, ℕ, zero, suc, pred, ◌+◌, ◌≤◌, true, List, [], ◌∷◌, ◌++◌, length, take, drop, Some, None, Option, sym, refl, ap, ◌∙◌, ap₂, add-zero, arith}
+use Rattle.std.proofs.lemmas.Bool.{and_parts, and_from}
 use Rattle.std.proofs.lemmas.List.{take-append-drop, length-take, drop_at, flat_map_more}
 use Rattle.model.specs.declared.Cause.{Cause}
 use Rattle.model.specs.declared.Fault.{Fault}
 use Rattle.model.specs.declared.Cause.TheVariants.{HeadCut, HeadNotAllowed, TextsCut, ZeroByte, NotALine}
 use Rattle.model.specs.Events.{Ev, allowed, all_allowed, cause_number}
 use Rattle.model.specs.Reading.{Coming, Front, nothing, event, fault, marked_at, ended, faulty, before, by_front, reading, read_all, events_of, fault_number, write_all, Format}
-
-and_left : (a b : Bool) → (a && b) ≡ true → a ≡ true
-and_left true b h = refl
-and_left false b h = h
-
-and_right : (a b : Bool) → (a && b) ≡ true → b ≡ true
-and_right true b h = h
-and_right false b h = let z : ◌≡◌ {A = ℕ} 0 1 = cc in absurd (omega (arith, z))
-
-and_both : (a b : Bool) → a ≡ true → b ≡ true → (a && b) ≡ true
-and_both a b p q = ap₂ ◌&&◌ p q
 
 -- no fault is numbered 0
 pub no_fault : (f : Option Fault) → fault_number f ≡ 0 → f ≡ None
@@ -31,8 +21,8 @@ no_fault (Some f) h = absurd (numbered f.cause h)
     numbered NotALine h = omega arith
 
 pub all_push : (es : List Ev) (e : Ev) → all_allowed es ≡ true → allowed e ≡ true → all_allowed (es ++ e ∷ []) ≡ true
-all_push [] e h a = and_both (allowed e) true a refl
-all_push (x ∷ es) e h a = and_both (allowed x) (all_allowed (es ++ e ∷ [])) (and_left (allowed x) (all_allowed es) h) (all_push es e (and_right (allowed x) (all_allowed es) h) a)
+all_push [] e h a = and_from (allowed e) true a refl
+all_push (x ∷ es) e h a = and_from (allowed x) (all_allowed (es ++ e ∷ [])) (and_parts (allowed x) (all_allowed es) h).0 (all_push es e (and_parts (allowed x) (all_allowed es) h).1 a)
 
 module _ {write : Ev → List ℕ} {front : List ℕ → Front} (format : Format write front) where
   -- an event at the front has a byte at least, and its bytes are there
@@ -53,7 +43,7 @@ module _ {write : Ev → List ℕ} {front : List ℕ → Front} (format : Format
   -- where an event stands at the front, it comes, and what comes after its bytes
   pub reading_event : (e : Ev) (n place count : ℕ) (bs : List ℕ) → front bs ≡ event e n → reading front 0 place count bs ≡ before (marked_at place count n e) (reading front 0 (place + n) (suc count) (drop n bs))
   unfolding reading
-  reading_event e n place count [] h = let same : nothing ≡ event e n = sym format.nothing_is_empty ∙ h in let z : ◌≡◌ {A = ℕ} 0 1 = cc in absurd (omega (arith, z))
+  reading_event e n place count [] h = let same : nothing ≡ event e n = sym format.nothing_is_empty ∙ h in cc
   reading_event e zero place count (b ∷ bs) h = let p = (format.only_written e zero (b ∷ bs) h).1 in absurd (omega (arith, p, format.not_empty e))
   reading_event e (suc m) place count (b ∷ bs) h =
       ap (λ f. by_front f place count (λ n. reading front (pred n) (suc place) (suc count) bs)) h
@@ -61,7 +51,7 @@ module _ {write : Ev → List ℕ} {front : List ℕ → Front} (format : Format
 
   pub reading_fault : (c : Cause) (place count : ℕ) (bs : List ℕ) → front bs ≡ fault c → reading front 0 place count bs ≡ faulty c place
   unfolding reading
-  reading_fault c place count [] h = let same : nothing ≡ fault c = sym format.nothing_is_empty ∙ h in let z : ◌≡◌ {A = ℕ} 0 1 = cc in absurd (omega (arith, z))
+  reading_fault c place count [] h = let same : nothing ≡ fault c = sym format.nothing_is_empty ∙ h in cc
   reading_fault c place count (b ∷ bs) h = ap (λ f. by_front f place count (λ n. reading front (pred n) (suc place) (suc count) bs)) h
 
   pub reading_nothing : (place count : ℕ) (bs : List ℕ) → front bs ≡ nothing → reading front 0 place count bs ≡ ended
@@ -76,9 +66,9 @@ module _ {write : Ev → List ℕ} {front : List ℕ → Front} (format : Format
       let n : ℕ = length (write e) in
       let rest : List ℕ = write_all write es in
       let step : reading front 0 place count (write e ++ rest) ≡ before (marked_at place count n e) (reading front 0 (place + n) (suc count) rest) =
-      reading_event e n place count (write e ++ rest) (format.reads_back e rest (and_left (allowed e) (all_allowed es) h))
+      reading_event e n place count (write e ++ rest) (format.reads_back e rest (and_parts (allowed e) (all_allowed es) h).0)
       ∙ ap (λ bs. before (marked_at place count n e) (reading front 0 (place + n) (suc count) bs)) (drop_at (write e) rest n refl) in
-      let more = read_written es (place + n) (suc count) (and_right (allowed e) (all_allowed es) h) in
+      let more = read_written es (place + n) (suc count) (and_parts (allowed e) (all_allowed es) h).1 in
       (ap events_of step ∙ ap (λ l. e ∷ l) more.0, ap (λ c. c.after) step ∙ more.1)
 
   -- what comes is allowed
@@ -91,7 +81,7 @@ module _ {write : Ev → List ℕ} {front : List ℕ → Front} (format : Format
       by_front_lem : (f : Front) → front (b ∷ bs) ≡ f → ((n : ℕ) → all_allowed (events_of (reading front (pred n) (suc place) (suc count) bs)) ≡ true) → all_allowed (events_of (by_front f place count (λ n. reading front (pred n) (suc place) (suc count) bs))) ≡ true
       by_front_lem nothing h more = refl
       by_front_lem (fault c) h more = refl
-      by_front_lem (event e n) h more = and_both (allowed e) _ (format.only_written e n (b ∷ bs) h).0 (more n)
+      by_front_lem (event e n) h more = and_from (allowed e) _ (format.only_written e n (b ∷ bs) h).0 (more n)
 
   written_step : (e : Ev) (n m : ℕ) (b : ℕ) (bs rest : List ℕ) → n ≡ suc m → take n (b ∷ bs) ≡ write e → drop m bs ≡ rest → b ∷ bs ≡ write e ++ rest
   written_step e n m b bs rest p t d = sym (take-append-drop (suc m) (b ∷ bs)) ∙ ap₂ ◌++◌ (ap (λ k. take k (b ∷ bs)) (sym p) ∙ t) d
@@ -111,7 +101,7 @@ module _ {write : Ev → List ℕ} {front : List ℕ → Front} (format : Format
           → ((n : ℕ) → pred n ≤ length bs → (rest n).after ≡ None → drop (pred n) bs ≡ write_all write (events_of (rest n)))
           → b ∷ bs ≡ write_all write (events_of (by_front f place count rest))
       by_front_lem nothing h w more = format.empty_is_nothing (b ∷ bs) h
-      by_front_lem (fault c) h w more = let z : ◌≡◌ {A = ℕ} 0 1 = cc in absurd (omega (arith, z))
+      by_front_lem (fault c) h w more = cc
       by_front_lem (event e n) h w more =
           let p = format.only_written e n (b ∷ bs) h in
           let size = front_size e n (b ∷ bs) h in

@@ -6,7 +6,7 @@ use Rattle.std.proofs.lemmas.Bool.{and_parts, and_from, leb-true, le-leb, eqb-tr
 use Rattle.model.specs.declared.EventKind.{EventKind}
 use Rattle.model.specs.declared.EventKind.TheVariants.{StreamStart, StreamEnd, DocumentStart, DocumentEnd, Alias, Scalar, SequenceStart, SequenceEnd, MappingStart, MappingEnd}
 use Rattle.model.specs.declared.Cause.{Cause}
-use Rattle.model.specs.declared.Cause.TheVariants.{HeadCut, HeadNotAllowed, TextsCut, ZeroByte}
+use Rattle.model.specs.declared.Cause.TheVariants.{HeadNotAllowed, TextsCut, ZeroByte}
 use Rattle.model.specs.Events.{Ev, table, within, zero_free, allowed, kind_number, kind_at}
 use Rattle.model.specs.Reading.{Front, nothing, event, fault, Format}
 use Rattle.packed.specs.Packed.{head_bytes, packed_of, size_of, event_at, by_head, two_bytes, packed_front}
@@ -68,17 +68,11 @@ reads_back e bs h =
     by_head_cong e.style e.flags ((e.anchor ++ (e.tag ++ e.value)) ++ bs) (kind_back e.kind) (two_back (length e.anchor)) (two_back (length e.tag)) (two_back (length e.value))
     ∙ by_head_back e bs h ∙ ap (event e) (sym (packed_length e))
 
-some_kind : (k j : EventKind) → Some k ≡ Some j → k ≡ j
-some_kind k j h = cc
-
-none_kind : (j : EventKind) → None ≢ Some j
-none_kind j h = let z : ◌≡◌ {A = ℕ} 0 1 = cc in omega (arith, z)
-
 peel : (n m : ℕ) (j k : EventKind) (others : Option EventKind) → kind_number j ≡ m → (others ≡ Some k → kind_number k ≡ n) → cond (n == m) (Some j) others ≡ Some k → kind_number k ≡ n
 peel n m j k others p more h = by (n == m) refl h
   where
     by : (b : Bool) → (n == m) ≡ b → cond b (Some j) others ≡ Some k → kind_number k ≡ n
-    by true q g = ap kind_number (sym (some_kind j k g)) ∙ p ∙ sym (eqb-true n m q)
+    by true q g = let is = eqb-true n m q in cc
     by false q g = more g
 
 -- the kind of a number has that number
@@ -86,28 +80,16 @@ number_back : (n : ℕ) (k : EventKind) → kind_at n ≡ Some k → kind_number
 number_back n k h =
     peel n 1 StreamStart k _ refl (peel n 2 StreamEnd k _ refl (peel n 3 DocumentStart k _ refl (peel n 4 DocumentEnd k _ refl
     (peel n 5 Alias k _ refl (peel n 6 Scalar k _ refl (peel n 7 SequenceStart k _ refl (peel n 8 SequenceEnd k _ refl
-    (peel n 9 MappingStart k _ refl (peel n 10 MappingEnd k None refl (λ g. absurd (none_kind k g))))))))))) h
-
-fault_no_event : (c : Cause) (e : Ev) (n : ℕ) → fault c ≢ event e n
-fault_no_event c e n h = let z : ◌≡◌ {A = ℕ} 0 1 = cc in omega (arith, z)
-
-nothing_no_event : (e : Ev) (n : ℕ) → nothing ≢ event e n
-nothing_no_event e n h = let z : ◌≡◌ {A = ℕ} 0 1 = cc in omega (arith, z)
-
-fault_something : (c : Cause) → fault c ≢ nothing
-fault_something c h = let z : ◌≡◌ {A = ℕ} 0 1 = cc in omega (arith, z)
-
-event_something : (e : Ev) (n : ℕ) → event e n ≢ nothing
-event_something e n h = let z : ◌≡◌ {A = ℕ} 0 1 = cc in omega (arith, z)
+    (peel n 9 MappingStart k _ refl (peel n 10 MappingEnd k None refl (λ g. cc)))))))))) h
 
 question : (b : Bool) (yes-front : Front) (c : Cause) → (yes-front ≢ nothing) → cond b yes-front (fault c) ≢ nothing
 question true y c more h = more h
-question false y c more h = fault_something c h
+question false y c more h = cc
 
 -- a question whose no is a fault was answered yes, and what comes after a yes is the event
 asked : (b : Bool) (yes-front : Front) (c : Cause) (e : Ev) (n : ℕ) → cond b yes-front (fault c) ≡ event e n → (b ≡ true) × (yes-front ≡ event e n)
 asked true y c e n h = (refl, h)
-asked false y c e n h = absurd (fault_no_event c e n h)
+asked false y c e n h = cc
 
 -- what a head that is taken for an event's says of it
 record Headed (k : EventKind) (s f a t v : ℕ) (texts : List ℕ) (e : Ev) (n : ℕ) : Type 0 where
@@ -197,7 +179,7 @@ written_back k s f a t v texts e n h =
 nine : (number : ℕ) (kind : Option EventKind) (s f a1 a0 t1 t0 v1 v0 : ℕ) (texts : List ℕ) (e : Ev) (n : ℕ) → kind_at number ≡ kind
     → by_head kind s f (two_bytes a1 a0) (two_bytes t1 t0) (two_bytes v1 v0) texts ≡ event e n
     → (allowed e ≡ true) × (n ≡ length (packed_of e)) × (take n (number ∷ (s ∷ (f ∷ (a1 ∷ (a0 ∷ (t1 ∷ (t0 ∷ (v1 ∷ (v0 ∷ texts))))))))) ≡ packed_of e)
-nine number None s f a1 a0 t1 t0 v1 v0 texts e n p h = absurd (fault_no_event HeadNotAllowed e n h)
+nine number None s f a1 a0 t1 t0 v1 v0 texts e n p h = cc
 nine number (Some k) s f a1 a0 t1 t0 v1 v0 texts e n p h =
     let a = two_bytes a1 a0 in
     let t = two_bytes t1 t0 in
@@ -220,36 +202,36 @@ Read bs e n = (allowed e ≡ true) × (n ≡ length (packed_of e)) × (take n bs
 
 only_written : (e : Ev) (n : ℕ) (bs : List ℕ) → packed_front bs ≡ event e n → Read bs e n
 unfolding Read
-only_written e n [] h = absurd (nothing_no_event e n h)
-only_written e n (k ∷ []) h = absurd (fault_no_event HeadCut e n h)
-only_written e n (k ∷ (s ∷ [])) h = absurd (fault_no_event HeadCut e n h)
-only_written e n (k ∷ (s ∷ (f ∷ []))) h = absurd (fault_no_event HeadCut e n h)
-only_written e n (k ∷ (s ∷ (f ∷ (a1 ∷ [])))) h = absurd (fault_no_event HeadCut e n h)
-only_written e n (k ∷ (s ∷ (f ∷ (a1 ∷ (a0 ∷ []))))) h = absurd (fault_no_event HeadCut e n h)
-only_written e n (k ∷ (s ∷ (f ∷ (a1 ∷ (a0 ∷ (t1 ∷ [])))))) h = absurd (fault_no_event HeadCut e n h)
-only_written e n (k ∷ (s ∷ (f ∷ (a1 ∷ (a0 ∷ (t1 ∷ (t0 ∷ []))))))) h = absurd (fault_no_event HeadCut e n h)
-only_written e n (k ∷ (s ∷ (f ∷ (a1 ∷ (a0 ∷ (t1 ∷ (t0 ∷ (v1 ∷ [])))))))) h = absurd (fault_no_event HeadCut e n h)
+only_written e n [] h = cc
+only_written e n (k ∷ []) h = cc
+only_written e n (k ∷ (s ∷ [])) h = cc
+only_written e n (k ∷ (s ∷ (f ∷ []))) h = cc
+only_written e n (k ∷ (s ∷ (f ∷ (a1 ∷ [])))) h = cc
+only_written e n (k ∷ (s ∷ (f ∷ (a1 ∷ (a0 ∷ []))))) h = cc
+only_written e n (k ∷ (s ∷ (f ∷ (a1 ∷ (a0 ∷ (t1 ∷ [])))))) h = cc
+only_written e n (k ∷ (s ∷ (f ∷ (a1 ∷ (a0 ∷ (t1 ∷ (t0 ∷ []))))))) h = cc
+only_written e n (k ∷ (s ∷ (f ∷ (a1 ∷ (a0 ∷ (t1 ∷ (t0 ∷ (v1 ∷ [])))))))) h = cc
 only_written e n (k ∷ (s ∷ (f ∷ (a1 ∷ (a0 ∷ (t1 ∷ (t0 ∷ (v1 ∷ (v0 ∷ texts))))))))) h = nine k (kind_at k) s f a1 a0 t1 t0 v1 v0 texts e n refl h
 
 -- with nine bytes there is a head, and a head is never nothing
 by_head_something : (kind : Option EventKind) (s f a t v : ℕ) (texts : List ℕ) → by_head kind s f a t v texts ≢ nothing
-by_head_something None s f a t v texts h = fault_something HeadNotAllowed h
+by_head_something None s f a t v texts h = cc
 by_head_something (Some k) s f a t v texts h =
     let e = event_at k s f a t v texts in
     question (within (table k) s f a t v) _ HeadNotAllowed
     (question (nat_le (a + (t + v)) (length texts)) _ TextsCut
-    (question (zero_free (take a texts) && zero_free (take t (drop a texts))) _ ZeroByte (event_something e (9 + (a + (t + v)))))) h
+    (question (zero_free (take a texts) && zero_free (take t (drop a texts))) _ ZeroByte (λ h. cc))) h
 
 empty_is_nothing : (bs : List ℕ) → packed_front bs ≡ nothing → bs ≡ []
 empty_is_nothing [] h = refl
-empty_is_nothing (k ∷ []) h = absurd (fault_something HeadCut h)
-empty_is_nothing (k ∷ (s ∷ [])) h = absurd (fault_something HeadCut h)
-empty_is_nothing (k ∷ (s ∷ (f ∷ []))) h = absurd (fault_something HeadCut h)
-empty_is_nothing (k ∷ (s ∷ (f ∷ (a1 ∷ [])))) h = absurd (fault_something HeadCut h)
-empty_is_nothing (k ∷ (s ∷ (f ∷ (a1 ∷ (a0 ∷ []))))) h = absurd (fault_something HeadCut h)
-empty_is_nothing (k ∷ (s ∷ (f ∷ (a1 ∷ (a0 ∷ (t1 ∷ [])))))) h = absurd (fault_something HeadCut h)
-empty_is_nothing (k ∷ (s ∷ (f ∷ (a1 ∷ (a0 ∷ (t1 ∷ (t0 ∷ []))))))) h = absurd (fault_something HeadCut h)
-empty_is_nothing (k ∷ (s ∷ (f ∷ (a1 ∷ (a0 ∷ (t1 ∷ (t0 ∷ (v1 ∷ [])))))))) h = absurd (fault_something HeadCut h)
+empty_is_nothing (k ∷ []) h = cc
+empty_is_nothing (k ∷ (s ∷ [])) h = cc
+empty_is_nothing (k ∷ (s ∷ (f ∷ []))) h = cc
+empty_is_nothing (k ∷ (s ∷ (f ∷ (a1 ∷ [])))) h = cc
+empty_is_nothing (k ∷ (s ∷ (f ∷ (a1 ∷ (a0 ∷ []))))) h = cc
+empty_is_nothing (k ∷ (s ∷ (f ∷ (a1 ∷ (a0 ∷ (t1 ∷ [])))))) h = cc
+empty_is_nothing (k ∷ (s ∷ (f ∷ (a1 ∷ (a0 ∷ (t1 ∷ (t0 ∷ []))))))) h = cc
+empty_is_nothing (k ∷ (s ∷ (f ∷ (a1 ∷ (a0 ∷ (t1 ∷ (t0 ∷ (v1 ∷ [])))))))) h = cc
 empty_is_nothing (k ∷ (s ∷ (f ∷ (a1 ∷ (a0 ∷ (t1 ∷ (t0 ∷ (v1 ∷ (v0 ∷ texts))))))))) h =
     absurd (by_head_something (kind_at k) s f (two_bytes a1 a0) (two_bytes t1 t0) (two_bytes v1 v0) texts h)
 

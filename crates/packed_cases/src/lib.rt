@@ -20,22 +20,15 @@ pub fn reading(bytes: &[u8]) -> (usize, Option<(u8, u64)>) {
     (20, None)
 }
 
-// An event with texts.
-pub fn event<'a>(
-    kind: EventKind,
-    style: u8,
-    flags: u8,
-    anchor: &'a [u8],
-    tag: &'a [u8],
-    value: &'a [u8],
-) -> Event<'a> {
+// An event of a kind, with no style, flags or texts.
+fn plain<'a>(kind: EventKind) -> Event<'a> {
     Event {
         kind,
-        style,
-        flags,
-        anchor,
-        tag,
-        value,
+        style: 0,
+        flags: 0,
+        anchor: b"",
+        tag: b"",
+        value: b"",
     }
 }
 
@@ -45,40 +38,48 @@ pub fn plain_allowed(kind: EventKind, style: u8, flags: u8) -> bool {
         EventKind::Alias => b"a",
         _ => b"",
     };
-    allowed(&event(kind, style, flags, anchor, b"", b""))
+    allowed(&Event {
+        style,
+        flags,
+        anchor,
+        ..plain(kind)
+    })
+}
+
+// An event of a kind with texts of these lengths, at most that of the bytes that they are taken from.
+fn of_lengths<'a>(
+    kind: EventKind,
+    bytes: &'a [u8],
+    anchor: usize,
+    tag: usize,
+    value: usize,
+) -> Event<'a> {
+    let most = bytes.len();
+    Event {
+        anchor: &bytes[..anchor.min(most)],
+        tag: &bytes[..tag.min(most)],
+        value: &bytes[..value.min(most)],
+        ..plain(kind)
+    }
 }
 
 // Whether an event of a kind with texts of these lengths, at most 5,000 each, is allowed.
 pub fn lengths_allowed(kind: EventKind, anchor: usize, tag: usize, value: usize) -> bool {
-    let long = [97u8; 5000];
-    let anchor = anchor.min(5000);
-    let tag = tag.min(5000);
-    let value = value.min(5000);
-    allowed(&event(kind, 0, 0, &long[0..anchor], &long[0..tag], &long[0..value]))
+    allowed(&of_lengths(kind, &[97; 5000], anchor, tag, value))
 }
 
 // The size of a scalar with texts of these lengths, at most 5,000 each.
 pub fn packed_size(anchor: usize, tag: usize, value: usize) -> Option<u16> {
-    let long = [97u8; 5000];
-    let anchor = anchor.min(5000);
-    let tag = tag.min(5000);
-    let value = value.min(5000);
-    <PackedWriter<'_> as Sink>::size(
-        &PackedWriter::new(&mut []),
-        &event(
-            EventKind::Scalar,
-            0,
-            0,
-            &long[0..anchor],
-            &long[0..tag],
-            &long[0..value],
-        ),
-    )
+    PackedWriter::new(&mut []).size(&of_lengths(EventKind::Scalar, &[97; 5000], anchor, tag, value))
 }
 
 // Hands a scalar to a writer.
 pub fn take_scalar(writer: &mut PackedWriter<'_>, style: u8, value: &[u8]) -> Result<(), Refusal> {
-    <PackedWriter<'_> as Sink>::take(writer, &event(EventKind::Scalar, style, 0, b"", b"", value))
+    writer.take(&Event {
+        style,
+        value,
+        ..plain(EventKind::Scalar)
+    })
 }
 
 #[cfg(test)]
@@ -109,8 +110,14 @@ mod tests {
         assert_eq!(rt; reading(&[6, 0, 0, 0, 0, 1, 1, 0, 0]), (0, Some((12, 0))));
         assert_eq!(rt; reading(&[6, 0, 0, 0, 0, 0, 0, 16, 1]), (0, Some((12, 0))));
         assert_eq!(rt; reading(&[6, 0, 0, 0, 0, 0, 0, 16, 0]), (0, Some((13, 0))));
-        assert_eq!(rt; reading(&[5, 0, 0, 0, 1, 0, 0, 0, 0, 0]), (0, Some((14, 0))));
-        assert_eq!(rt; reading(&[6, 0, 0, 0, 0, 0, 1, 0, 0, 0]), (0, Some((14, 0))));
+        assert_eq!(rt;
+            reading(&[5, 0, 0, 0, 1, 0, 0, 0, 0, 0]),
+            (0, Some((14, 0)))
+        );
+        assert_eq!(rt;
+            reading(&[6, 0, 0, 0, 0, 0, 1, 0, 0, 0]),
+            (0, Some((14, 0)))
+        );
         assert_eq!(rt; reading(&[6, 0, 0, 0, 0, 0, 0, 0, 1, 0]), (1, None));
     }
 
@@ -130,11 +137,7 @@ mod tests {
         for _ in 0..3 {
             assert!(rt; reader.next_event().is_ok());
         }
-        let next = reader.next_event();
-        let Ok(found) = next else {
-            return Err(Fail::new("a fault"));
-        };
-        let Some(head) = found else {
+        let Ok(Some(head)) = reader.next_event() else {
             return Err(Fail::new("no event"));
         };
         assert!(rt; head.start.index == 27 && head.start.line == 3 && head.start.column == 0);
@@ -150,16 +153,21 @@ mod tests {
 
     #[test]
     fn styles_and_flags_by_kind(rt: HostRuntime) -> Result<(), Fail> {
-        let most_style = [3, 0, 0, 0, 0, 5, 2, 0, 2, 0];
-        let most_flags = [0, 0, 1, 1, 0, 3, 1, 0, 1, 0];
-        for number in 1..11u8 {
-            let Ok(kind) = EventKind::try_from(number) else {
-                return Err(Fail::new("a kind is missing"));
-            };
+        let most = [
+            (3, 0),
+            (0, 0),
+            (0, 1),
+            (0, 1),
+            (0, 0),
+            (5, 3),
+            (2, 1),
+            (0, 0),
+            (2, 1),
+            (0, 0),
+        ];
+        for (number, (style, flags)) in (1..11u8).zip(most) {
+            let kind = EventKind::try_from(number)?;
             assert!(rt; u8::from(kind) == number);
-            let i = number as usize - 1;
-            let style: u8 = most_style[i];
-            let flags: u8 = most_flags[i];
             assert!(rt; plain_allowed(kind, style, flags));
             assert!(rt; !plain_allowed(kind, style.saturating_add(1), flags));
             assert!(rt; !plain_allowed(kind, style, flags.saturating_add(1)));
@@ -184,9 +192,24 @@ mod tests {
 
     #[test]
     fn zero_bytes_only_in_values(rt: HostRuntime) {
-        assert!(rt; !allowed(&event(EventKind::Scalar, 0, 0, b"\0", b"", b"")));
-        assert!(rt; !allowed(&event(EventKind::Scalar, 0, 0, b"", b"a\0", b"")));
-        assert!(rt; allowed(&event(EventKind::Scalar, 0, 0, b"", b"", b"\0")));
+        assert!(rt;
+            !allowed(&Event {
+                anchor: b"\0",
+                ..plain(EventKind::Scalar)
+            })
+        );
+        assert!(rt;
+            !allowed(&Event {
+                tag: b"a\0",
+                ..plain(EventKind::Scalar)
+            })
+        );
+        assert!(rt;
+            allowed(&Event {
+                value: b"\0",
+                ..plain(EventKind::Scalar)
+            })
+        );
     }
 
     #[test]
@@ -204,9 +227,9 @@ mod tests {
                 space: 11
             })
         );
-        assert!(rt; <PackedWriter<'_> as Sink>::space(&writer) == 11);
+        assert!(rt; writer.space() == 11);
         assert_eq!(rt; take_scalar(&mut writer, 5, b"ab"), Ok(()));
-        assert!(rt; <PackedWriter<'_> as Sink>::space(&writer) == 0);
+        assert!(rt; writer.space() == 0);
     }
 
     #[test]
@@ -220,7 +243,7 @@ mod tests {
         assert!(rt; converted.events == 8);
         assert!(rt; matches!(converted.end, End::Ended));
         let written = sink.finish();
-        assert!(rt; written == &BOOK);
+        assert!(rt; written == BOOK.as_slice());
     }
 
     #[test]

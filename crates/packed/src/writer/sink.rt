@@ -51,7 +51,7 @@ impl<'a> PackedWriter<'a> {
         ensures { Finished self.entry result.now }
     {
         let PackedWriter { out, used } = self;
-        &out[0..used]
+        &out[..used]
     }
 }
 
@@ -85,10 +85,7 @@ impl<'a> Sink for PackedWriter<'a> {
     }
 
     fn take(&mut self, e: &Event<'_>) -> Result<(), Refusal> {
-        fitting(
-            <PackedWriter<'_> as Sink>::size(self, e),
-            <PackedWriter<'_> as Sink>::space(self),
-        )?;
+        fitting((*self).size(e), (*self).space())?;
         self.used = self.put_event(e);
         Ok(())
     }
