@@ -1,6 +1,7 @@
 -- The visits that the three routines make, put together.
-use Rattle.std.proofs.Common.{◌≡◌, ℕ, zero, suc, ◌+◌, ◌%◌, ◌<◌, ◌≤◌, Bool, true, false, cond, List, [], ◌∷◌, ◌++◌, length, take, drop, set, Some, sym, refl, ap, ◌∙◌, subst, arith}
+use Rattle.std.proofs.Common.{◌≡◌, ℕ, zero, suc, ◌+◌, ◌-◌, ◌*◌, ◌/◌, ◌%◌, ◌<◌, ◌≤◌, Bool, true, false, cond, List, [], ◌∷◌, ◌++◌, length, get_or, take, drop, set, Some, Ok, Err, Result, sym, refl, ap, ◌∙◌, subst, arith}
 use Rattle.std.proofs.lemmas.List.{take_all, take-append-drop, length-append}
+use Rattle.std.specs.Simd.{first_chunks}
 use Rattle.model.specs.declared.NodeKind.{NodeKind}
 use Rattle.model.specs.declared.NodeKind.TheVariants.{Scalar, Mapping}
 use Rattle.model.specs.Graph.{Vertex, Book, nth, numbered}
@@ -9,36 +10,38 @@ use Rattle.serial.specs.Walk.{Token, first, again, leave, among, is_collection}
 use Rattle.serial.specs.Walks.{weight, sum_all, Visit, Visits, visit_again, visit_leaf, visit_into, no_visit, visit_more, IsTooDeep, deep_here, deep_below, deep_at}
 use Rattle.walk.specs.declared.entry.Counted.{Counted}
 use Rattle.walk.specs.declared.entry.Step.{Step}
-use Rattle.walk.specs.declared.dump.Walked.{Walked}
-use Rattle.walk.specs.declared.dump.Walked.TheVariants.{TooDeep, To}
-use Rattle.walk.specs.Entries.{made, entry_at, replaced}
-use Rattle.walk.specs.Looks.{Inside, IsKind, HasLinks, LinksTo}
-use Rattle.walk.specs.Going.{puts, State, state, Marks, weighed, links_at, SameAnchors, CanVisit, Went, NoWay, Visited, CanOpen, Opening, NoOpening, Opened}
-use Rattle.walk.proofs.Places.{length_replaced}
-use Rattle.walk.proofs.Sounds.{vertex_at_lem, paired}
-use Rattle.walk.proofs.Links.{take_nth, drop_nth, at_suc}
+use Rattle.walk.specs.declared.entry.StepKind.TheVariants.{First, Again, Leave}
+use Rattle.walk.specs.declared.dump.TooDeep.{TooDeep}
+use Rattle.walk.specs.declared.dump.Walk.{Walk}
+use Rattle.walk.specs.Entries.{empty_counted, entry_at, replaced}
+use Rattle.walk.specs.Looks.{Inside, IsKind, links_at, HasLinks, LinksTo}
+use Rattle.walk.specs.Going.{puts, State, state, state_of, SameTables, Stepped, Marks, weighed, SameAnchors, CanVisit, Went, NoWay, Visited, CanOpen, Opening, NoOpening, Opened}
+use Rattle.walk.proofs.Places.{entry_is, replaced_is, length_replaced}
+use Rattle.walk.proofs.Sounds.{steps_few, vertex_at_lem, paired}
+use Rattle.walk.proofs.Looking.{links_are}
+use Rattle.walk.proofs.Links.{take_nth, drop_nth, link_at, key_at, value_at}
 use Rattle.walk.proofs.Marking.{weighed_few, weighed_more, met_when, unmet_when, marks_more, anchors_kept}
 use Rattle.walk.proofs.Putting.{puts_on}
 
-pub links_are : (g : List Vertex) (v : ℕ) (x : Vertex) → numbered g v ≡ Some x → links_at g v ≡ x.links
-links_are g v x e = rw e
+-- so few steps can be counted that the count fits its type
+pub count_few : (b : Book) (t : List Counted) (n : ℕ) → SoundBook b → n ≤ weighed b.nodes t → n < 100000
+count_few b t n s few = omega (arith, weighed_few b.nodes t, steps_few b s)
 
 -- a node met again
 pub went_again :
-    (g : List Vertex) (depth v : ℕ) (t : List Counted) (s s' : List Step) (n n' : ℕ) → ((entry_at t v).serialized ≡ 0 → ⊥)
-    → n' ≡ n + 1 → s' ≡ set s n (made 2 v) → Went g depth v (state t s n) (state t s' n')
-went_again g depth v t s s' n n' met count wrote =
+    (g : List Vertex) (depth v : ℕ) (p q : State) → 1 ≤ v → ((get_or p.counting (v - 1) empty_counted).serialized ≡ 0 → ⊥) → Stepped Again v p q → Went g depth v p q
+went_again g depth v p q some met one =
     record {
       from = λ seen marks. record {
         tokens = again v ∷ [];
         met = seen;
-        visit = visit_again (sym (marks v) ∙ met_when t v met) refl refl;
-        marks = marks;
-        steps = wrote;
-        at = omega arith;
+        visit = visit_again (sym (marks v) ∙ met_when p.counting v (λ none. met (ap (λ (c : Counted). c.serialized) (entry_is p.counting v some) ∙ none))) refl refl;
+        marks = subst (λ (t : List Counted). Marks t seen) (sym one.counting) marks;
+        steps = one.wrote;
+        at = one.count;
       };
-      anchors = λ w. refl;
-      weighs = omega arith;
+      anchors = λ w. ap (λ (t : List Counted). (entry_at t w).anchor) one.counting;
+      weighs = omega (arith, one.count, ap (weighed g) one.counting);
     }
 
 -- the node v, met for the first time, is marked
@@ -49,6 +52,34 @@ pub record Marked (g : List Vertex) (v : ℕ) (t : List Counted) (c : Counted) (
   pub met : c.serialized ≡ 1
   pub anchor : c.anchor ≡ (entry_at t v).anchor
   pub table : t' ≡ replaced t v c
+
+abbrev pub met_entry : Counted → Counted
+met_entry c = record { references = c.references; anchor = c.anchor; serialized = 1 }
+
+-- the entry and the table once the node v is marked, as the code writes them
+abbrev pub entry_met : List Counted → ℕ → Counted
+entry_met t v = met_entry (get_or t (v - 1) empty_counted)
+
+abbrev pub table_met : List Counted → ℕ → List Counted
+table_met t v = set t (v - 1) (entry_met t v)
+
+abbrev pub once_met : State → ℕ → State
+once_met p v = state (table_met p.counting v) p.steps p.at
+
+pub marked :
+    (g : List Vertex) (depth v : ℕ) (p : State) → CanVisit g depth v p → (get_or p.counting (v - 1) empty_counted).serialized ≡ 0
+    → Marked g v p.counting (entry_met p.counting v) (table_met p.counting v)
+marked g depth v p can unmet =
+    let t = p.counting in
+    let is = entry_is t v can.inside.low in
+    record {
+      inside = can.inside;
+      room = can.room;
+      unmet = ap (λ (c : Counted). c.serialized) (sym is) ∙ unmet;
+      met = refl;
+      anchor = ap (λ (c : Counted). c.anchor) is;
+      table = replaced_is t v (entry_met t v) can.inside.low;
+    }
 
 fresh : (g : List Vertex) (v : ℕ) (t t' : List Counted) (c : Counted) (seen : List ℕ) → Marked g v t c t' → Marks t seen → among v seen ≡ false
 fresh g v t t' c seen m marks = sym (marks v) ∙ unmet_when t v m.unmet
@@ -75,28 +106,34 @@ weight_by x b e = ap (λ k. cond k (suc (length x.links)) 0) e
 
 -- a scalar
 pub went_leaf :
-    (g : List Vertex) (depth v : ℕ) (t t' : List Counted) (c : Counted) (s s' : List Step) (n n' : ℕ) → Marked g v t c t' → IsKind g v Scalar
-    → n' ≡ n + 1 → s' ≡ set s n (made 1 v) → Went g depth v (state t s n) (state t' s' n')
-went_leaf g depth v t t' c s s' n n' m k count wrote =
+    (g : List Vertex) (depth v : ℕ) (p q : State) → Marked g v p.counting (entry_met p.counting v) (table_met p.counting v) → IsKind g v Scalar
+    → Stepped First v (once_met p v) q → Went g depth v p q
+went_leaf g depth v p q m k one =
+    let t = p.counting in
+    let t' = table_met t v in
+    let c = entry_met t v in
     let leaf : is_collection k.vertex.look.kind ≡ false = ap is_collection k.kind in
     record {
       from = λ seen marks. record {
         tokens = first v ∷ [];
         met = v ∷ seen;
         visit = visit_leaf (fresh g v t t' c seen m marks) k.there leaf refl refl;
-        marks = marks_after g v t t' c seen m marks;
-        steps = wrote;
-        at = omega arith;
+        marks = subst (λ (u : List Counted). Marks u (v ∷ seen)) (sym one.counting) (marks_after g v t t' c seen m marks);
+        steps = one.wrote;
+        at = one.count;
       };
-      anchors = anchors_after g v t t' c m;
-      weighs = omega (arith, count, weighed_after g v t t' c k.vertex m k.there, weight_by k.vertex false leaf);
+      anchors = λ w. ap (λ (u : List Counted). (entry_at u w).anchor) one.counting ∙ anchors_after g v t t' c m w;
+      weighs = omega (arith, one.count, ap (weighed g) one.counting, weighed_after g v t t' c k.vertex m k.there, weight_by k.vertex false leaf);
     }
 
 -- a collection
 pub can_open :
-    (g : List Vertex) (kind : NodeKind) (depth v : ℕ) (t t' : List Counted) (c : Counted) (s : List Step) (n : ℕ) → CanVisit g depth v (state t s n) → Marked g v t c t'
-    → is_collection kind ≡ true → IsKind g v kind → CanOpen g kind depth v (state t' s n)
-can_open g kind depth v t t' c s n can m coll k =
+    (g : List Vertex) (kind : NodeKind) (depth v : ℕ) (p : State) → CanVisit g depth v p → Marked g v p.counting (entry_met p.counting v) (table_met p.counting v)
+    → is_collection kind ≡ true → IsKind g v kind → CanOpen g kind depth v (once_met p v)
+can_open g kind depth v p can m coll k =
+    let t = p.counting in
+    let t' = table_met t v in
+    let c = entry_met t v in
     let is : is_collection k.vertex.look.kind ≡ true = ap is_collection k.kind ∙ coll in
     let long = ap length (links_are g v k.vertex k.there) in
     record {
@@ -110,9 +147,12 @@ can_open g kind depth v t t' c s n can m coll k =
     }
 
 went_into :
-    (g : List Vertex) (kind : NodeKind) (depth v : ℕ) (t t' : List Counted) (c : Counted) (s : List Step) (n : ℕ) (q : State) → Marked g v t c t'
-    → is_collection kind ≡ true → IsKind g v kind → Opening g depth v (state t' s n) q → Went g depth v (state t s n) q
-went_into g kind depth v t t' c s n q m coll k o =
+    (g : List Vertex) (kind : NodeKind) (depth v : ℕ) (p q : State) → Marked g v p.counting (entry_met p.counting v) (table_met p.counting v)
+    → is_collection kind ≡ true → IsKind g v kind → Opening g depth v (once_met p v) q → Went g depth v p q
+went_into g kind depth v p q m coll k o =
+    let t = p.counting in
+    let t' = table_met t v in
+    let c = entry_met t v in
     let is : is_collection k.vertex.look.kind ≡ true = ap is_collection k.kind ∙ coll in
     let long = ap length (links_are g v k.vertex k.there) in
     record {
@@ -124,10 +164,12 @@ went_into g kind depth v t t' c s n q m coll k o =
     }
 
 pub opened_visited :
-    (g : List Vertex) (kind : NodeKind) (depth v : ℕ) (t t' : List Counted) (c : Counted) (s : List Step) (n : ℕ) (t'' : List Counted) (s'' : List Step) → Marked g v t c t'
-    → is_collection kind ≡ true → IsKind g v kind → (r : Walked) → Opened g depth v (state t' s n) r t'' s'' → Visited g depth v (state t s n) r t'' s''
-opened_visited g kind depth v t t' c s n t'' s'' m coll k TooDeep o = λ seen marks. o seen (fresh g v t t' c seen m marks) (marks_after g v t t' c seen m marks)
-opened_visited g kind depth v t t' c s n t'' s'' m coll k (To n'') o = went_into g kind depth v t t' c s n (state t'' s'' n'') m coll k o
+    (g : List Vertex) (kind : NodeKind) (depth v : ℕ) (p q : State) → Marked g v p.counting (entry_met p.counting v) (table_met p.counting v)
+    → is_collection kind ≡ true → IsKind g v kind → (r : Result (Unit {0}) TooDeep) → Opened g depth v (once_met p v) r q → Visited g depth v p r q
+opened_visited g kind depth v p q m coll k (Ok u) o = went_into g kind depth v p q m coll k o
+opened_visited g kind depth v p q m coll k (Err e) o =
+    let t = p.counting in
+    λ seen marks. o seen (fresh g v t (table_met t v) (entry_met t v) seen m marks) (marks_after g v t (table_met t v) (entry_met t v) seen m marks)
 
 -- Within a collection, after its first step: the first i of its links are visited.
 pub record ChildrenFrom (g : List Vertex) (depth v i : ℕ) (p q : State) (seen : List ℕ) : Type 0 where
@@ -143,7 +185,12 @@ pub record Children (g : List Vertex) (depth v i : ℕ) (p q : State) : Type 0 w
   pub anchors : SameAnchors p.counting q.counting
   pub weighs : q.at + weighed g p.counting ≡ p.at + i + weighed g q.counting
 
-pub children_none : (g : List Vertex) (depth v : ℕ) (p : State) → Children g depth v 0 p p
+-- the same of the tables that are written
+pub record Going (g : List Vertex) (depth v i : ℕ) (a b : Walk) : Type 0 where
+  pub children : Children g depth v i (state_of a) (state_of b)
+  pub tables : SameTables a b
+
+children_none : (g : List Vertex) (depth v : ℕ) (p : State) → Children g depth v 0 p p
 children_none g depth v p =
     record {
       from = λ seen new marks. record {
@@ -158,24 +205,23 @@ children_none g depth v p =
       weighs = omega arith;
     }
 
--- the link at the next place
-child_next : (g : List Vertex) (v i w : ℕ) → LinksTo g v (i + 1) w → nth (links_at g v) i ≡ Some w
-child_next g v i w l = ap (λ (xs : List ℕ). nth xs i) (links_are g v l.vertex l.there) ∙ at_suc l.vertex.links i w l.link
+pub going_none : (g : List Vertex) (depth v : ℕ) (a : Walk) → Going g depth v 0 a a
+going_none g depth v a = record { children = children_none g depth v (state_of a); tables = record { counting = refl; steps = refl; nodes = refl; room = refl } }
 
-child_below : (g : List Vertex) (v i w : ℕ) → LinksTo g v (i + 1) w → i < length (links_at g v)
-child_below g v i w l = below (links_at g v) i (child_next g v i w l)
+child_below : (g : List Vertex) (v i w : ℕ) → LinksTo g v i w → i < length (links_at g v)
+child_below g v i w l = below (links_at g v) i l.link
   where
     below : (xs : List ℕ) (j : ℕ) → nth xs j ≡ Some w → j < length xs
     below [] j e = let z : ◌≡◌ {A = ℕ} 0 1 = cc in absurd (omega arith)
     below (x ∷ xs) zero e = omega arith
     below (x ∷ xs) (suc j) e = omega (arith, below xs j e)
 
-pub children_more :
-    (g : List Vertex) (depth v i w : ℕ) (p q r : State) → Children g depth v i p q → LinksTo g v (i + 1) w → Went g (depth + 1) w q r → Children g depth v (i + 1) p r
+children_more :
+    (g : List Vertex) (depth v i w : ℕ) (p q r : State) → Children g depth v i p q → LinksTo g v i w → Went g (depth + 1) w q r → Children g depth v (i + 1) p r
 children_more g depth v i w p q r ch link went =
     let s : suc i ≡ i + 1 = omega arith in
     let deeper : depth + 1 ≡ suc depth = omega arith in
-    let more : take (i + 1) (links_at g v) ≡ take i (links_at g v) ++ w ∷ [] = ap (λ k. take k (links_at g v)) (sym s) ∙ take_nth (links_at g v) i w (child_next g v i w link) in
+    let more : take (i + 1) (links_at g v) ≡ take i (links_at g v) ++ w ∷ [] = ap (λ k. take k (links_at g v)) (sym s) ∙ take_nth (links_at g v) i w link.link in
     record {
       from = λ seen new marks.
           let a = ch.from seen new marks in
@@ -192,78 +238,101 @@ children_more g depth v i w p q r ch link went =
       weighs = omega (arith, ch.weighs, went.weighs);
     }
 
-pub children_all :
-    (g : List Vertex) (kind : NodeKind) (depth v i : ℕ) (t : List Counted) (s s₁ : List Step) (n n₁ : ℕ) (t₂ : List Counted) (s₂ s₃ : List Step) (n₂ n₃ : ℕ)
-    → CanOpen g kind depth v (state t s n) → is_collection kind ≡ true → depth < 256
-    → n₁ ≡ n + 1 → s₁ ≡ set s n (made 1 v) → Children g depth v i (state t s₁ n₁) (state t₂ s₂ n₂) → i ≡ length (links_at g v)
-    → n₃ ≡ n₂ + 1 → s₃ ≡ set s₂ n₂ (made 3 v) → Opening g depth v (state t s n) (state t₂ s₃ n₃)
-children_all g kind depth v i t s s₁ n n₁ t₂ s₂ s₃ n₂ n₃ can coll lt begun began ch all ended end =
-    let is : is_collection can.vertex.look.kind ≡ true = ap is_collection can.kind ∙ coll in
-    let one : n₁ ≡ suc n = omega arith in
-    let whole : take i (links_at g v) ≡ can.vertex.links = take_all i (links_at g v) (omega (arith, all)) ∙ links_are g v can.vertex can.there in
+pub going_more :
+    (g : List Vertex) (depth v i w : ℕ) (a b c : Walk) → Going g depth v i a b → LinksTo g v i w → Went g (depth + 1) w (state_of b) (state_of c) → SameTables b c
+    → Going g depth v (i + 1) a c
+going_more g depth v i w a b c so link went same =
     record {
-      from = λ seen new marks.
-          let a = ch.from seen new marks in
-          let inner = a.tokens ++ leave v ∷ [] in
-          record {
-            tokens = first v ∷ inner;
-            met = a.met;
-            visit = visit_into new can.there is lt (subst (λ (xs : List ℕ). Visits g 256 (suc depth) (v ∷ seen) xs a.tokens a.met) whole a.visits) refl;
-            marks = a.marks;
-            steps = puts_on s₁ s₂ s₃ n₁ n₂ a.tokens (leave v ∷ []) a.steps a.at end
-                ∙ ap (λ k. puts s₁ k inner) one ∙ ap (λ (z : List Step). puts z (suc n) inner) began;
-            at = omega (arith, a.at, begun, ended, length-append a.tokens (leave v ∷ []));
-          };
-      anchors = ch.anchors;
-      weighs = omega (arith, ch.weighs, all, begun, ended);
+      children = children_more g depth v i w (state_of a) (state_of b) (state_of c) so.children link went;
+      tables = record {
+        counting = so.tables.counting ∙ same.counting;
+        steps = so.tables.steps ∙ same.steps;
+        nodes = same.nodes ∙ so.tables.nodes;
+        room = same.room ∙ so.tables.room;
+      };
     }
+
+-- What the routines for collections share: the collection v was opened from p to q by its first step.
+module _ (g : List Vertex) (kind : NodeKind) (depth v : ℕ) (p q : State) (can : CanOpen g kind depth v p) (coll : is_collection kind ≡ true) (lt : depth < 256) (began : Stepped First v p q) where
+  is : is_collection can.vertex.look.kind ≡ true
+  is = ap is_collection can.kind ∙ coll
+
+  marks_begun : (seen : List ℕ) → Marks p.counting (v ∷ seen) → Marks q.counting (v ∷ seen)
+  marks_begun seen marks = subst (λ (t : List Counted). Marks t (v ∷ seen)) (sym began.counting) marks
+
+  -- all its links are visited, and it is left
+  pub opened : (i : ℕ) (r e : State) → Children g depth v i q r → i ≡ length (links_at g v) → Stepped Leave v r e → Opening g depth v p e
+  opened i r e ch all left =
+      let whole : take i (links_at g v) ≡ can.vertex.links = take_all i (links_at g v) (omega (arith, all)) ∙ links_are g v can.vertex can.there in
+      let one : q.at ≡ suc p.at = omega (arith, began.count) in
+      record {
+        from = λ seen new marks.
+            let a = ch.from seen new (marks_begun seen marks) in
+            let inner = a.tokens ++ leave v ∷ [] in
+            record {
+              tokens = first v ∷ inner;
+              met = a.met;
+              visit = visit_into new can.there is lt (subst (λ (xs : List ℕ). Visits g 256 (suc depth) (v ∷ seen) xs a.tokens a.met) whole a.visits) refl;
+              marks = subst (λ (t : List Counted). Marks t a.met) (sym left.counting) a.marks;
+              steps = puts_on q.steps r.steps e.steps q.at r.at a.tokens (leave v ∷ []) a.steps a.at left.wrote
+                  ∙ ap (λ k. puts q.steps k inner) one ∙ ap (λ (z : List Step). puts z (suc p.at) inner) began.wrote;
+              at = omega (arith, a.at, began.count, left.count, length-append a.tokens (leave v ∷ []));
+            };
+        anchors = λ w. ap (λ (t : List Counted). (entry_at t w).anchor) left.counting ∙ ch.anchors w ∙ ap (λ (t : List Counted). (entry_at t w).anchor) began.counting;
+        weighs = omega (arith, ch.weighs, all, began.count, left.count, ap (weighed g) began.counting, ap (weighed g) left.counting);
+      }
+
+  -- below one of its links it is too deep
+  pub no_opening_below : (i w : ℕ) (r : State) → Children g depth v i q r → LinksTo g v i w → NoWay g (depth + 1) w r → NoOpening g depth v p
+  no_opening_below i w r ch link none =
+      let deeper : depth + 1 ≡ suc depth = omega arith in
+      let parts : can.vertex.links ≡ take i (links_at g v) ++ (w ∷ drop (suc i) (links_at g v)) =
+      sym (links_are g v can.vertex can.there) ∙ sym (take-append-drop i (links_at g v)) ∙ ap (λ (xs : List ℕ). take i (links_at g v) ++ xs) (drop_nth (links_at g v) i w link.link) in
+      λ seen new marks.
+      let a = ch.from seen new (marks_begun seen marks) in
+      deep_below new can.there is lt
+      (deep_at (drop (suc i) (links_at g v)) a.visits (subst (λ k. IsTooDeep g 256 k a.met w) deeper (none a.met a.marks)) parts)
+
+  -- what the visit of its next link needs
+  pub can_visit_child : (i w : ℕ) (r : State) → Children g depth v i q r → LinksTo g v i w → length r.counting ≡ length q.counting → CanVisit g (depth + 1) w r
+  can_visit_child i w r ch link long =
+      record {
+        inside = link.inside;
+        room = omega (arith, long, ap length began.counting, can.room);
+        depth_fits = omega arith;
+        few = omega (arith, ch.weighs, can.few, began.count, ap (weighed g) began.counting, child_below g v i w link);
+      }
+
+  -- its last step can be counted
+  pub end_few : (i : ℕ) (r : State) → Children g depth v i q r → i ≤ length (links_at g v) → r.at ≤ weighed g r.counting
+  end_few i r ch few = omega (arith, ch.weighs, can.few, began.count, ap (weighed g) began.counting)
 
 pub no_opening_here : (g : List Vertex) (kind : NodeKind) (depth v : ℕ) (p : State) → CanOpen g kind depth v p → is_collection kind ≡ true → 256 ≤ depth → NoOpening g depth v p
 no_opening_here g kind depth v p can coll deep = λ seen new marks. deep_here new can.there (ap is_collection can.kind ∙ coll) deep
 
-pub no_opening_below :
-    (g : List Vertex) (kind : NodeKind) (depth v i w : ℕ) (t : List Counted) (s s₁ : List Step) (n n₁ : ℕ) (q : State) → CanOpen g kind depth v (state t s n) → is_collection kind ≡ true → depth < 256
-    → Children g depth v i (state t s₁ n₁) q → LinksTo g v (i + 1) w → NoWay g (depth + 1) w q → NoOpening g depth v (state t s n)
-no_opening_below g kind depth v i w t s s₁ n n₁ q can coll lt ch link none =
-    let deeper : depth + 1 ≡ suc depth = omega arith in
-    let parts : can.vertex.links ≡ take i (links_at g v) ++ (w ∷ drop (suc i) (links_at g v)) =
-    sym (links_are g v can.vertex can.there) ∙ sym (take-append-drop i (links_at g v)) ∙ ap (λ (xs : List ℕ). take i (links_at g v) ++ xs) (drop_nth (links_at g v) i w (child_next g v i w link)) in
-    λ seen new marks.
-    let a = ch.from seen new marks in
-    deep_below new can.there (ap is_collection can.kind ∙ coll) lt
-    (deep_at (drop (suc i) (links_at g v)) a.visits (subst (λ k. IsTooDeep g 256 k a.met w) deeper (none a.met a.marks)) parts)
+-- the links of a mapping, which are read in pairs
+module _ (g : List Vertex) (v : ℕ) (ws : List ℕ) (ps : List (List ℕ)) (h : HasLinks g v ws) (cut : ps ≡ first_chunks 2 (length ws / 2) ws) (long : length ps ≡ length ws / 2) (i : ℕ) (lt : i < length ps) where
+  pub key_link : LinksTo g v (2 * i) (get_or (get_or ps i []) 0 0)
+  key_link =
+      let same : get_or ws (2 * i) 0 ≡ get_or (get_or ps i []) 0 0 =
+      sym (ap (λ (qs : List (List ℕ)). get_or (get_or qs i []) 0 0) cut ∙ key_at (length ws / 2) i ws (omega arith)) in
+      subst (λ w. LinksTo g v (2 * i) w) same (link_at g v ws (2 * i) h (omega arith))
 
-pub can_visit_child :
-    (g : List Vertex) (kind : NodeKind) (depth v i w : ℕ) (t : List Counted) (s s₁ : List Step) (n n₁ : ℕ) (q : State) → CanOpen g kind depth v (state t s n) → depth < 256 → n₁ ≡ n + 1
-    → Children g depth v i (state t s₁ n₁) q → LinksTo g v (i + 1) w → length q.counting ≡ length t → CanVisit g (depth + 1) w q
-can_visit_child g kind depth v i w t s s₁ n n₁ q can lt begun ch link long =
-    record {
-      inside = link.inside;
-      room = omega (arith, long, can.room);
-      depth_fits = omega arith;
-      few = omega (arith, ch.weighs, can.few, begun, child_below g v i w link);
-    }
+  pub value_link : LinksTo g v (2 * i + 1) (get_or (get_or ps i []) 1 0)
+  value_link =
+      let same : get_or ws (2 * i + 1) 0 ≡ get_or (get_or ps i []) 1 0 =
+      sym (ap (λ (qs : List (List ℕ)). get_or (get_or qs i []) 1 0) cut ∙ value_at (length ws / 2) i ws (omega arith)) in
+      subst (λ w. LinksTo g v (2 * i + 1) w) same (link_at g v ws (2 * i + 1) h (omega arith))
 
--- the count fits its type
-pub end_fits :
-    (g : List Vertex) (kind : NodeKind) (depth v i : ℕ) (t : List Counted) (s s₁ : List Step) (n n₁ : ℕ) (q : State) → CanOpen g kind depth v (state t s n) → n₁ ≡ n + 1
-    → Children g depth v i (state t s₁ n₁) q → i ≤ length (links_at g v) → sum_all weight g ≤ 20480 → q.at < 100000
-end_fits g kind depth v i t s s₁ n n₁ q can begun ch few all = omega (arith, ch.weighs, can.few, begun, weighed_few g q.counting)
+  pub key_visited : (depth : ℕ) (a b c : Walk) → Going g depth v (2 * i) a b → Went g (depth + 1) (get_or (get_or ps i []) 0 0) (state_of b) (state_of c) → SameTables b c
+      → Going g depth v (2 * i + 1) a c
+  key_visited depth a b c so went same = going_more g depth v (2 * i) (get_or (get_or ps i []) 0 0) a b c so key_link went same
 
--- what an answer tells
-pub visited_none :
-    (g : List Vertex) (depth v : ℕ) (p : State) (t : List Counted) (s : List Step) (r : Walked) → Visited g depth v p r t s → r ≡ TooDeep → NoWay g depth v p
-visited_none g depth v p t s TooDeep visited is = visited
-visited_none g depth v p t s (To n) visited is = let z : ◌≡◌ {A = ℕ} 0 1 = cc in absurd (omega arith)
-
-pub visited_some :
-    (g : List Vertex) (depth v : ℕ) (p : State) (t : List Counted) (s : List Step) (r : Walked) (n : ℕ) → Visited g depth v p r t s → r ≡ To n → Went g depth v p (state t s n)
-visited_some g depth v p t s TooDeep n visited is = let z : ◌≡◌ {A = ℕ} 0 1 = cc in absurd (omega arith)
-visited_some g depth v p t s (To m) n visited is = let same : m ≡ n = cc in subst (λ k. Went g depth v p (state t s k)) same visited
-
--- the number of links read is that of the graph
-pub links_counted : (g : List Vertex) (v n : ℕ) → HasLinks g v n → length (links_at g v) ≡ n
-links_counted g v n h = ap length (links_are g v h.vertex h.there) ∙ h.count
+  pub pair_visited : (depth : ℕ) (a b c : Walk) → Going g depth v (2 * i + 1) a b → Went g (depth + 1) (get_or (get_or ps i []) 1 0) (state_of b) (state_of c) → SameTables b c
+      → Going g depth v (2 * (i + 1)) a c
+  pair_visited depth a b c so went same =
+      let two : (2 * i + 1) + 1 ≡ 2 * (i + 1) = omega arith in
+      subst (λ k. Going g depth v k a c) two (going_more g depth v (2 * i + 1) (get_or (get_or ps i []) 1 0) a b c so value_link went same)
 
 -- a mapping has as many keys as values
 pub links_paired : (b : Book) (depth v : ℕ) (p : State) → SoundBook b → CanOpen b.nodes Mapping depth v p → length (links_at b.nodes v) % 2 ≡ 0
@@ -271,23 +340,3 @@ links_paired b depth v p s can =
     let x = can.vertex in
     ap (λ (xs : List ℕ). length xs % 2) (links_are b.nodes v x can.there)
     ∙ paired x.look.kind x.look.value x.links (vertex_at_lem b s v x can.there).by_kind can.kind
-
-abbrev pub met_entry : Counted → Counted
-met_entry c = record { references = c.references; anchor = c.anchor; serialized = 1 }
-
-pub marked :
-    (g : List Vertex) (v : ℕ) (t t' : List Counted) (old : Counted) → Inside g v → length g ≤ length t → old ≡ entry_at t v → old.serialized ≡ 0 → t' ≡ replaced t v (met_entry old)
-    → Marked g v t (met_entry old) t'
-marked g v t t' old inside room is unmet table =
-    record {
-      inside = inside;
-      room = room;
-      unmet = sym (ap (λ (x : Counted). x.serialized) is) ∙ unmet;
-      met = refl;
-      anchor = ap (λ (x : Counted). x.anchor) is;
-      table = table;
-    }
-
--- the kind that an arm has
-pub of_kind_lem : (g : List Vertex) (v : ℕ) (r k : NodeKind) → IsKind g v r → r ≡ k → IsKind g v k
-of_kind_lem g v r k is e = subst (λ x. IsKind g v x) e is

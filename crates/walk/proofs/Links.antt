@@ -1,8 +1,10 @@
 -- Going through a node's links one after the other.
-use Rattle.std.proofs.Common.{◌≡◌, ℕ, zero, suc, ◌+◌, ◌≤◌, List, [], ◌∷◌, ◌++◌, length, take, drop, Some, ap, ◌∙◌, arith}
-use Rattle.std.proofs.lemmas.List.{drop_all}
-use Rattle.model.specs.Graph.{Vertex, nth, numbered}
-use Rattle.walk.specs.Looks.{HasLinks, LinksTo}
+use Rattle.std.proofs.Common.{◌≡◌, ℕ, zero, suc, ◌+◌, ◌*◌, ◌<◌, ◌≤◌, List, [], ◌∷◌, ◌++◌, length, get_or, take, drop, Some, sym, refl, ap, ◌∙◌, arith}
+use Rattle.std.proofs.lemmas.List.{drop_all, drop-drop, get_or-take, get_or-drop}
+use Rattle.model.specs.Graph.{Vertex, nth}
+use Rattle.std.specs.Simd.{first_chunks}
+use Rattle.document.proofs.Every.{nth_at}
+use Rattle.walk.specs.Looks.{links_at, HasLinks, LinksTo}
 use Rattle.walk.proofs.Numbers.{root_links}
 
 pub drop_nth : (xs : List ℕ) (i w : ℕ) → nth xs i ≡ Some w → drop i xs ≡ w ∷ drop (suc i) xs
@@ -15,19 +17,37 @@ take_nth [] i w e = let z : ◌≡◌ {A = ℕ} 0 1 = cc in absurd (omega arith)
 take_nth (x ∷ xs) zero w e = let same : x ≡ w = cc in ap (λ y. y ∷ []) same
 take_nth (x ∷ xs) (suc i) w e = ap (λ (ys : List ℕ). x ∷ ys) (take_nth xs i w e)
 
-root_is : (g : List Vertex) (x : Vertex) → numbered g 1 ≡ Some x → root_links g ≡ x.links
-root_is [] x e = let z : ◌≡◌ {A = ℕ} 0 1 = cc in absurd (omega arith)
-root_is (y ∷ g) x e = let same : y ≡ x = cc in ap (λ (v : Vertex). v.links) same
+-- the link at a place of those that were read
+pub link_at : (g : List Vertex) (v : ℕ) (ws : List ℕ) (i : ℕ) → HasLinks g v ws → i < length ws → LinksTo g v i (get_or ws i 0)
+link_at g v ws i h lt = record { link = ap (λ (xs : List ℕ). nth xs i) (sym h.links) ∙ nth_at ws i 0 lt; inside = h.inside i lt }
 
-pub at_suc : (xs : List ℕ) (i w : ℕ) → numbered xs (i + 1) ≡ Some w → nth xs i ≡ Some w
-at_suc xs i w e = let s : suc i ≡ i + 1 = omega arith in ap (λ k. numbered xs k) s ∙ e
+root_is : (g : List Vertex) → links_at g 1 ≡ root_links g
+root_is [] = refl
+root_is (x ∷ g) = refl
 
-pub next_link : (g : List Vertex) (i w : ℕ) → LinksTo g 1 (i + 1) w → drop i (root_links g) ≡ w ∷ drop (i + 1) (root_links g)
-next_link g i w l =
+-- the links of the root, which are read one after the other
+pub next_link : (g : List Vertex) (ws : List ℕ) (i : ℕ) → HasLinks g 1 ws → i < length ws → drop i (root_links g) ≡ get_or ws i 0 ∷ drop (i + 1) (root_links g)
+next_link g ws i h lt =
     let s : suc i ≡ i + 1 = omega arith in
-    let same = root_is g l.vertex l.there in
-    let there : nth (root_links g) i ≡ Some w = ap (λ (xs : List ℕ). nth xs i) same ∙ at_suc l.vertex.links i w l.link in
-    drop_nth (root_links g) i w there ∙ ap (λ k. w ∷ drop k (root_links g)) s
+    let there : nth (root_links g) i ≡ Some (get_or ws i 0) = ap (λ (xs : List ℕ). nth xs i) (sym (h.links ∙ root_is g)) ∙ nth_at ws i 0 lt in
+    drop_nth (root_links g) i (get_or ws i 0) there ∙ ap (λ k. get_or ws i 0 ∷ drop k (root_links g)) s
 
-pub no_link : (g : List Vertex) (n i : ℕ) → HasLinks g 1 n → n ≤ i → drop i (root_links g) ≡ []
-no_link g n i h past = drop_all i (root_links g) (omega (arith, ap length (root_is g h.vertex h.there), h.count))
+pub no_link : (g : List Vertex) (ws : List ℕ) (i : ℕ) → HasLinks g 1 ws → length ws ≤ i → drop i (root_links g) ≡ []
+no_link g ws i h past = drop_all i (root_links g) (omega (arith, ap length (h.links ∙ root_is g)))
+
+-- links cut into pairs
+pair_at : (n i : ℕ) (ws : List ℕ) → i < n → get_or (first_chunks 2 n ws) i [] ≡ take 2 (drop (2 * i) ws)
+pair_at zero i ws lt = absurd (omega arith)
+pair_at (suc n) zero ws lt = refl
+pair_at (suc n) (suc i) ws lt =
+    let e : 2 + 2 * i ≡ 2 * suc i = omega arith in
+    pair_at n i (drop 2 ws) (omega arith) ∙ ap (take 2) (drop-drop (2 * i) 2 ws ∙ ap (λ k. drop k ws) e)
+
+pub key_at : (n i : ℕ) (ws : List ℕ) → i < n → get_or (get_or (first_chunks 2 n ws) i []) 0 0 ≡ get_or ws (2 * i) 0
+key_at n i ws lt =
+    let start : 2 * i + 0 ≡ 2 * i = omega arith in
+    ap (λ (p : List ℕ). get_or p 0 0) (pair_at n i ws lt) ∙ get_or-take 2 (drop (2 * i) ws) 0 0 (omega arith) ∙ get_or-drop (2 * i) ws 0 0 ∙ ap (λ k. get_or ws k 0) start
+
+pub value_at : (n i : ℕ) (ws : List ℕ) → i < n → get_or (get_or (first_chunks 2 n ws) i []) 1 0 ≡ get_or ws (2 * i + 1) 0
+value_at n i ws lt =
+    ap (λ (p : List ℕ). get_or p 1 0) (pair_at n i ws lt) ∙ get_or-take 2 (drop (2 * i) ws) 1 0 (omega arith) ∙ get_or-drop (2 * i) ws 1 0

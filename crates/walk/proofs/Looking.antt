@@ -1,39 +1,42 @@
 -- What reading a Document tells of the node that a number names.
-use Rattle.std.proofs.Common.{◌≡◌, ℕ, List, length, Some, None, Option, ap, arith}
-use Rattle.model.specs.Graph.{Vertex, Book, numbered, follow}
-use Rattle.document.specs.Reads.{given, count_in}
+use Rattle.std.proofs.Common.{◌≡◌, ℕ, zero, suc, ◌<◌, List, [], ◌∷◌, length, get_or, Some, None, Option, IsSome, sym, refl, ap, ◌∙◌, subst, arith}
+use Rattle.std.specs.Borrow.{Bor}
+use Rattle.std.specs.List.{AllByRecursion}
+use Rattle.model.specs.Graph.{Vertex, Book, numbered}
+use Rattle.document.specs.Reads.{seen, given, links_in}
 use Rattle.document.specs.Sound.{Names, SoundBook}
-use Rattle.document.proofs.Lookups.{follow_at}
 use Rattle.serial.proofs.Among.{numbered_there}
-use Rattle.walk.specs.Looks.{Inside, HasLinks, HasPlace, LinksTo}
-use Rattle.walk.proofs.Sounds.{all_numbered, links_few, vertex_at_lem}
+use Rattle.walk.specs.Looks.{links_at, Inside, HasLinks}
+use Rattle.walk.proofs.Sounds.{links_few, vertex_at_lem}
 
-pub never_none : {Y : Type 0} (g : List Vertex) (v : ℕ) (f : Vertex → Y) (o : Option Y) → Inside g v → o ≡ given f (numbered g v) → o ≡ None → ⊥
-never_none g v f o in_g e n =
+pub is_there : {Y : Type 0} (g : List Vertex) (v : ℕ) (f : Vertex → Y) (o : Option Y) → Inside g v → o ≡ given f (numbered g v) → IsSome o
+is_there g v f (Some y) in_g e = refl
+is_there g v f None in_g e =
     let x = numbered_there g v in_g.low in_g.high in
     let is : given f (numbered g v) ≡ Some (f x.0) = ap (given f) x.1 in
-    let z : ◌≡◌ {A = ℕ} 0 1 = cc in omega arith
+    let z : ◌≡◌ {A = ℕ} 0 1 = cc in absurd (omega arith)
 
-pub links_there : (b : Book) (v n : ℕ) (o : Option ℕ) → SoundBook b → Inside b.nodes v → o ≡ given count_in (numbered b.nodes v) → o ≡ Some n → HasLinks b.nodes v n
-links_there b v n o s in_b e is =
+pub is_seen : {Y : Type 0} (g : List Vertex) (v : ℕ) (f : Vertex → Y) (o : Option (Bor Y)) → Inside g v → seen o ≡ given f (numbered g v) → IsSome o
+is_seen g v f (Some y) in_g e = refl
+is_seen g v f None in_g e = is_there g v f None in_g e
+
+at_there : {X : Type 0} (P : X → Type 0) (d : X) (xs : List X) (i : ℕ) → AllByRecursion P xs → i < length xs → P (get_or xs i d)
+at_there P d [] i all lt = absurd (omega arith)
+at_there P d (x ∷ xs) zero all lt = all.0
+at_there P d (x ∷ xs) (suc i) all lt = at_there P d xs i all.1 (omega arith)
+
+pub links_are : (g : List Vertex) (v : ℕ) (x : Vertex) → numbered g v ≡ Some x → links_at g v ≡ x.links
+links_are g v x e = rw e
+
+pub links_there : (b : Book) (v : ℕ) (ws : List ℕ) → SoundBook b → Inside b.nodes v → Some ws ≡ given links_in (numbered b.nodes v) → HasLinks b.nodes v ws
+links_there b v ws s in_b e =
     let x = numbered_there b.nodes v in_b.low in_b.high in
-    let long : given count_in (numbered b.nodes v) ≡ Some (length x.0.links) = ap (given count_in) x.1 in
-    let same : length x.0.links ≡ n = cc in
-    record { vertex = x.0; there = x.1; count = same; few = omega (arith, links_few b s v x.0 x.1, same) }
-
-child_placed : (b : Book) (v place : ℕ) (h : HasPlace b.nodes v place) → (w : ℕ) × (numbered h.vertex.links place ≡ Some w)
-child_placed b v place h = numbered_there h.vertex.links place h.low h.high
-
-pub child_never_none : (b : Book) (v place : ℕ) (o : Option ℕ) → HasPlace b.nodes v place → o ≡ follow b.nodes (Some v) place → o ≡ None → ⊥
-child_never_none b v place o h e n =
-    let w = child_placed b v place h in
-    let is = follow_at b.nodes v place h.vertex h.there in
-    let link = w.1 in
-    let z : ◌≡◌ {A = ℕ} 0 1 = cc in omega arith
-
-pub child_there : (b : Book) (v place w : ℕ) (o : Option ℕ) → SoundBook b → HasPlace b.nodes v place → o ≡ follow b.nodes (Some v) place → o ≡ Some w → LinksTo b.nodes v place w
-child_there b v place w o s h e is =
-    let way = follow_at b.nodes v place h.vertex h.there in
-    let link : numbered h.vertex.links place ≡ Some w = cc in
-    let named = all_numbered (Names (length b.nodes)) h.vertex.links place w (vertex_at_lem b s v h.vertex h.there).links_name link in
-    record { vertex = h.vertex; there = h.there; link = link; inside = record { low = named.low; high = named.high } }
+    let are : given links_in (numbered b.nodes v) ≡ Some x.0.links = ap (given links_in) x.1 in
+    let same : ws ≡ x.0.links = cc in
+    record {
+      links = same ∙ sym (links_are b.nodes v x.0 x.1);
+      few = omega (arith, links_few b s v x.0 x.1, ap length same);
+      inside = λ i lt.
+          let named = at_there (Names (length b.nodes)) 0 ws i (subst (λ (xs : List ℕ). AllByRecursion (Names (length b.nodes)) xs) (sym same) (vertex_at_lem b s v x.0 x.1).links_name) lt in
+          record { low = named.low; high = named.high };
+    }

@@ -1,5 +1,5 @@
 -- From the contracts of numbering and walking to the answer of planning.
-use Rattle.std.proofs.Common.{◌≡◌, ℕ, zero, suc, ◌<◌, ◌≤◌, eqb, List, [], ◌∷◌, ◌++◌, map, length, get_or, take, drop, set, replicate, Some, None, sym, refl, ap, ◌∙◌, inl, inr, ⊎_elim, arith}
+use Rattle.std.proofs.Common.{◌≡◌, ℕ, zero, suc, ◌<◌, ◌≤◌, eqb, List, [], ◌∷◌, ◌++◌, map, length, get_or, take, drop, set, replicate, Some, None, sym, refl, ap, ◌∙◌, subst, inl, inr, ⊎_elim, arith}
 use mathlib.Core.List.Memᴰ
 use lib.ListN.{length-map}
 use Rattle.std.proofs.lemmas.List.{set_at, append_assoc, length_push, get_or-replicate, get_or_past, length-replicate, take_at}
@@ -207,3 +207,8 @@ ready b t t' s s' n sb p w le e =
       inside = all_inside b f.tokens f.met sb p.enough.some f.visit;
       tells = record { apart = anchors_apart g; given = λ v m. named_some g v (named v m) };
     }
+
+-- the plan, whatever its tables are called
+pub ready_as : {g : List Vertex} {counts n : ℕ} {s : List Step} {t t' : List Counted} {q q' : List Step} → t ≡ t' → q ≡ q' → ReadyToWrite g counts s n t' q' → ReadyToWrite g counts s n t q
+ready_as {g} {counts} {n} {s} {t} {t'} {q} {q'} e f r =
+    subst (λ u. ReadyToWrite g counts s n u q) (sym e) (subst (λ u. ReadyToWrite g counts s n t' u) (sym f) r)

@@ -1,15 +1,16 @@
 -- What the walk over the nodes does to the two tables.
-use Rattle.std.specs.Prelude.{◌≡◌, ℕ, suc, ◌+◌, ◌≤◌, Bool, false, cond, not, List, [], ◌∷◌, length, Some, None, Option, ◌==◌, slice_set}
+use Rattle.std.specs.Prelude.{◌≡◌, ℕ, suc, ◌+◌, ◌≤◌, Bool, false, cond, not, List, [], ◌∷◌, length, Some, Ok, Err, Result, ◌==◌, slice_set}
 use Rattle.model.specs.declared.NodeKind.{NodeKind}
 use Rattle.model.specs.Graph.{Vertex, numbered}
 use Rattle.serial.specs.Walk.{Token, first, again, leave, among}
 use Rattle.serial.specs.Walks.{weight, Visit, IsTooDeep}
 use Rattle.walk.specs.declared.entry.Counted.{Counted}
 use Rattle.walk.specs.declared.entry.Step.{Step}
-use Rattle.walk.specs.declared.dump.Walked.{Walked}
-use Rattle.walk.specs.declared.dump.Walked.TheVariants.{TooDeep, To}
-use Rattle.walk.specs.Entries.{made, entry_at}
-use Rattle.walk.specs.Looks.{Inside}
+use Rattle.walk.specs.declared.entry.StepKind.{StepKind}
+use Rattle.walk.specs.declared.dump.TooDeep.{TooDeep}
+use Rattle.walk.specs.declared.dump.Walk.{Walk}
+use Rattle.walk.specs.Entries.{made, entry_at, step_number}
+use Rattle.walk.specs.Looks.{Inside, links_at}
 
 -- the entry of a step
 abbrev pub step_of : Token → Step
@@ -31,6 +32,22 @@ pub record State : Type 0 where
 abbrev pub state : List Counted → List Step → ℕ → State
 state t s n = record { counting = t; steps = s; at = n }
 
+abbrev pub state_of : Walk → State
+state_of w = state w.counting.now w.steps.now w.count
+
+-- both tables are those that they were, as long as they were
+pub record SameTables (a b : Walk) : Type 0 where
+  pub counting : a.counting.ghost_name ≡ b.counting.ghost_name
+  pub steps : a.steps.ghost_name ≡ b.steps.ghost_name
+  pub nodes : length b.counting.now ≡ length a.counting.now
+  pub room : length b.steps.now ≡ length a.steps.now
+
+-- one more step of that kind, about the node v
+pub record Stepped (k : StepKind) (v : ℕ) (p q : State) : Type 0 where
+  pub counting : q.counting ≡ p.counting
+  pub wrote : q.steps ≡ slice_set p.steps p.at (made (step_number k) v)
+  pub count : q.at ≡ p.at + 1
+
 -- whether the table says that a node was met
 abbrev pub met_at : List Counted → ℕ → Bool
 met_at t v = not ((entry_at t v).serialized == 0)
@@ -44,14 +61,6 @@ abbrev pub weighed : List Vertex → List Counted → ℕ
 weighed [] t = 0
 weighed (x ∷ g) [] = 0
 weighed (x ∷ g) (c ∷ t) = cond (c.serialized == 0) 0 (weight x) + weighed g t
-
-abbrev links_in : Option Vertex → List ℕ
-links_in None = []
-links_in (Some x) = x.links
-
--- the links of a node
-abbrev pub links_at : List Vertex → ℕ → List ℕ
-links_at g v = links_in (numbered g v)
 
 -- anchors stay as they are
 abbrev pub SameAnchors : List Counted → List Counted → Type 0
@@ -82,9 +91,9 @@ abbrev pub NoWay : List Vertex → ℕ → ℕ → State → Type 0
 NoWay g depth v p = (seen : List ℕ) → Marks p.counting seen → IsTooDeep g 256 depth seen v
 
 -- a visit, by its answer
-abbrev pub Visited : List Vertex → ℕ → ℕ → State → Walked → List Counted → List Step → Type 0
-Visited g depth v p TooDeep t s = NoWay g depth v p
-Visited g depth v p (To n) t s = Went g depth v p (state t s n)
+abbrev pub Visited : List Vertex → ℕ → ℕ → State → Result (Unit {0}) TooDeep → State → Type 0
+Visited g depth v p (Ok u) q = Went g depth v p q
+Visited g depth v p (Err e) q = NoWay g depth v p
 
 -- what the visit of a collection of kind k needs, which is marked as met before its steps are written
 pub record CanOpen (g : List Vertex) (k : NodeKind) (depth v : ℕ) (p : State) : Type 0 where
@@ -105,6 +114,6 @@ abbrev pub NoOpening : List Vertex → ℕ → ℕ → State → Type 0
 NoOpening g depth v p = (seen : List ℕ) → among v seen ≡ false → Marks p.counting (v ∷ seen) → IsTooDeep g 256 depth seen v
 
 -- the visit of a collection, by its answer
-abbrev pub Opened : List Vertex → ℕ → ℕ → State → Walked → List Counted → List Step → Type 0
-Opened g depth v p TooDeep t s = NoOpening g depth v p
-Opened g depth v p (To n) t s = Opening g depth v p (state t s n)
+abbrev pub Opened : List Vertex → ℕ → ℕ → State → Result (Unit {0}) TooDeep → State → Type 0
+Opened g depth v p (Ok u) q = Opening g depth v p q
+Opened g depth v p (Err e) q = NoOpening g depth v p

@@ -2,8 +2,8 @@
 ghost use Rattle.document.specs.Books.{book_of};
 ghost use Rattle.walk.specs.Counting.{Countable, Referred, Ready, Numbered};
 
-use crate::entry::{Counted, entry, replace};
-use crate::look::{child_at, count_at};
+use crate::entry::Counted;
+use crate::look::links_at;
 use document::Document;
 
 // One more reference of a node; at its second it gets the next number.
@@ -11,23 +11,12 @@ fn anchor_node_sub(counting: &mut [Counted], last_anchor_id: &mut u32, node: u32
     requires { Countable counting.old last_anchor_id.old node }
     ensures { Referred counting.old last_anchor_id.old node counting.new last_anchor_id.new }
 {
-    let old = entry(counting, node);
-    if old.references + 1 == 2 {
+    let counted = &mut counting[node as usize - 1];
+    counted.references += 1;
+    if counted.references == 2 {
         *last_anchor_id += 1;
-        let numbered = Counted {
-            references: old.references + 1,
-            anchor: *last_anchor_id,
-            serialized: old.serialized,
-        };
-        replace(counting, node, numbered);
-        return;
+        counted.anchor = *last_anchor_id;
     }
-    let again = Counted {
-        references: old.references + 1,
-        anchor: old.anchor,
-        serialized: old.serialized,
-    };
-    replace(counting, node, again);
 }
 
 // Numbers the nodes.
@@ -36,9 +25,7 @@ pub fn anchor_node(d: &Document<'_>, counting: &mut [Counted], last_anchor_id: &
     ensures { Numbered (book_of d.now).nodes counting.new last_anchor_id.new }
 {
     anchor_node_sub(counting, last_anchor_id, 1);
-    let count = count_at(d, 1);
-    for i in 0..count {
-        let child = child_at(d, 1, i + 1);
-        anchor_node_sub(counting, last_anchor_id, child);
+    for child in links_at(d, 1) {
+        anchor_node_sub(counting, last_anchor_id, *child);
     }
 }

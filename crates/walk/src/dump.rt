@@ -1,135 +1,105 @@
 // The walk: three routines that call one another. They write steps while the table has room, and go on counting.
-ghost use Rattle.std.specs.Prelude.{◌≡◌, ◌+◌, ◌<◌, slice_set};
+ghost use Rattle.std.specs.Prelude.{◌<◌};
 ghost use Rattle.model.specs.declared.NodeKind.TheVariants.{Sequence as SequenceKind, Mapping as MappingKind};
 ghost use Rattle.document.specs.Books.{book_of};
-ghost use Rattle.walk.specs.Entries.{made};
-ghost use Rattle.walk.specs.Going.{state, CanVisit, Visited, CanOpen, Opened};
 
-use crate::entry::{AGAIN, Counted, FIRST, LEAVE, Step, entry, put, replace};
-use crate::look::{child_at, count_at, kind_at};
+use crate::entry::{Counted, Step, StepKind};
+use crate::look::{kind_at, links_at};
 use document::limits::MAX_OPEN;
 use document::{Document, NodeKind};
 
-// How far the walk came.
+// More collections would be open at once than may be.
 #[derive(Clone, Copy, PartialEq, Eq, Debug)]
-pub enum Walked {
-    // more collections would be open at once than may be
-    TooDeep,
-    // so many steps are counted
-    To(usize),
+pub struct TooDeep;
+
+// How far a walk came.
+#[derive(Drop)]
+pub struct Walk<'c, 's> {
+    // which nodes were met
+    pub counting: &'c mut [Counted],
+    // the steps, as far as the table has room for them
+    pub steps: &'s mut [Step],
+    // how many steps there are
+    pub count: usize,
 }
 
-// A node met again.
-fn dump_alias(steps: &mut [Step], at: usize, node: u32) -> usize
-    requires { at < 100000 }
-    ensures count { result ≡ at + 1 }
-    ensures wrote { steps.new ≡ slice_set steps.old at (made 2 node) }
-{
-    put(steps, at, AGAIN, node)
-}
+impl Walk<'_, '_> {
+    ghost use Rattle.walk.specs.Going.{Stepped, SameTables, state_of, CanVisit, Visited, CanOpen, Opened};
 
-// A scalar met first.
-fn dump_scalar(steps: &mut [Step], at: usize, node: u32) -> usize
-    requires { at < 100000 }
-    ensures count { result ≡ at + 1 }
-    ensures wrote { steps.new ≡ slice_set steps.old at (made 1 node) }
-{
-    put(steps, at, FIRST, node)
-}
+    // Writes a step where the table has room for it, and counts it in any case.
+    fn step(&mut self, kind: StepKind, node: u32)
+        requires { self.old.count < 100000 }
+        ensures stepped { Stepped kind node (state_of self.old) (state_of self.new) }
+        ensures tables { SameTables self.old self.new }
+    {
+        let place = self.count;
+        if place < self.steps.len() {
+            self.steps[place] = Step::new(kind, node);
+        }
+        self.count = place + 1;
+    }
 
-// Any node, while `depth` collections are open.
-#[cycle(dump_mapping_dump_node_dump_sequence)]
-pub fn dump_node(
-    d: &Document<'_>,
-    counting: &mut [Counted],
-    steps: &mut [Step],
-    at: usize,
-    node: u32,
-    depth: usize,
-) -> Walked
-    requires { CanVisit (book_of d.now).nodes depth node (state counting.old steps.old at) }
-    ensures { Visited (book_of d.now).nodes depth node (state counting.old steps.old at) result counting.new steps.new }
-{
-    d.sound();
-    let old = entry(counting, node);
-    if old.serialized != 0 {
-        return Walked::To(dump_alias(steps, at, node));
+    // Any node, while `depth` collections are open.
+    #[cycle(dump_mapping_dump_node_dump_sequence)]
+    pub fn dump_node(&mut self, d: &Document<'_>, node: u32, depth: usize) -> Result<(), TooDeep>
+        requires { CanVisit (book_of d.now).nodes depth node (state_of self.old) }
+        ensures visited { Visited (book_of d.now).nodes depth node (state_of self.old) result (state_of self.new) }
+        ensures tables { SameTables self.old self.new }
+    {
+        d.sound();
+        let place = node as usize - 1;
+        if self.counting[place].serialized != 0 {
+            self.step(StepKind::Again, node);
+            return Ok(());
+        }
+        self.counting[place].serialized = 1;
+        match kind_at(d, node) {
+            NodeKind::Scalar => {
+                self.step(StepKind::First, node);
+                Ok(())
+            }
+            NodeKind::Sequence => self.dump_sequence(d, node, depth),
+            NodeKind::Mapping => self.dump_mapping(d, node, depth),
+        }
     }
-    let met = Counted {
-        references: old.references,
-        anchor: old.anchor,
-        serialized: 1,
-    };
-    replace(counting, node, met);
-    match kind_at(d, node) {
-        NodeKind::Scalar => Walked::To(dump_scalar(steps, at, node)),
-        NodeKind::Sequence => dump_sequence(d, counting, steps, at, node, depth),
-        NodeKind::Mapping => dump_mapping(d, counting, steps, at, node, depth),
-    }
-}
 
-// A sequence met first: its items, in order.
-#[cycle(dump_mapping_dump_node_dump_sequence)]
-fn dump_sequence(
-    d: &Document<'_>,
-    counting: &mut [Counted],
-    steps: &mut [Step],
-    at: usize,
-    node: u32,
-    depth: usize,
-) -> Walked
-    requires { CanOpen (book_of d.now).nodes SequenceKind depth node (state counting.old steps.old at) }
-    ensures { Opened (book_of d.now).nodes depth node (state counting.old steps.old at) result counting.new steps.new }
-{
-    d.sound();
-    if depth >= MAX_OPEN {
-        return Walked::TooDeep;
+    // A sequence met first: its items, in order.
+    #[cycle(dump_mapping_dump_node_dump_sequence)]
+    fn dump_sequence(&mut self, d: &Document<'_>, node: u32, depth: usize) -> Result<(), TooDeep>
+        requires { CanOpen (book_of d.now).nodes SequenceKind depth node (state_of self.old) }
+        ensures opened { Opened (book_of d.now).nodes depth node (state_of self.old) result (state_of self.new) }
+        ensures tables { SameTables self.old self.new }
+    {
+        d.sound();
+        if depth >= MAX_OPEN {
+            return Err(TooDeep);
+        }
+        self.step(StepKind::First, node);
+        for item in links_at(d, node) {
+            self.dump_node(d, *item, depth + 1)?;
+        }
+        self.step(StepKind::Leave, node);
+        Ok(())
     }
-    let mut count = put(steps, at, FIRST, node);
-    let items = count_at(d, node);
-    for i in 0..items {
-        let item = child_at(d, node, i + 1);
-        let walked = dump_node(d, counting, steps, count, item, depth + 1);
-        let Walked::To(next) = walked else {
-            return Walked::TooDeep;
-        };
-        count = next;
-    }
-    Walked::To(put(steps, count, LEAVE, node))
-}
 
-// A mapping met first: its keys, each with its value after it.
-#[cycle(dump_mapping_dump_node_dump_sequence)]
-fn dump_mapping(
-    d: &Document<'_>,
-    counting: &mut [Counted],
-    steps: &mut [Step],
-    at: usize,
-    node: u32,
-    depth: usize,
-) -> Walked
-    requires { CanOpen (book_of d.now).nodes MappingKind depth node (state counting.old steps.old at) }
-    ensures { Opened (book_of d.now).nodes depth node (state counting.old steps.old at) result counting.new steps.new }
-{
-    d.sound();
-    if depth >= MAX_OPEN {
-        return Walked::TooDeep;
+    // A mapping met first: its keys, each with its value after it.
+    #[cycle(dump_mapping_dump_node_dump_sequence)]
+    fn dump_mapping(&mut self, d: &Document<'_>, node: u32, depth: usize) -> Result<(), TooDeep>
+        requires { CanOpen (book_of d.now).nodes MappingKind depth node (state_of self.old) }
+        ensures opened { Opened (book_of d.now).nodes depth node (state_of self.old) result (state_of self.new) }
+        ensures tables { SameTables self.old self.new }
+    {
+        d.sound();
+        if depth >= MAX_OPEN {
+            return Err(TooDeep);
+        }
+        self.step(StepKind::First, node);
+        let (pairs, _) = links_at(d, node).as_chunks::<2>();
+        for [key, value] in pairs {
+            self.dump_node(d, *key, depth + 1)?;
+            self.dump_node(d, *value, depth + 1)?;
+        }
+        self.step(StepKind::Leave, node);
+        Ok(())
     }
-    let mut count = put(steps, at, FIRST, node);
-    let pairs = count_at(d, node) / 2;
-    for i in 0..pairs {
-        let key = child_at(d, node, 2 * i + 1);
-        let walked_key = dump_node(d, counting, steps, count, key, depth + 1);
-        let Walked::To(next) = walked_key else {
-            return Walked::TooDeep;
-        };
-        count = next;
-        let value = child_at(d, node, 2 * i + 2);
-        let walked_value = dump_node(d, counting, steps, count, value, depth + 1);
-        let Walked::To(next) = walked_value else {
-            return Walked::TooDeep;
-        };
-        count = next;
-    }
-    Walked::To(put(steps, count, LEAVE, node))
 }

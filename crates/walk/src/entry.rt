@@ -1,9 +1,13 @@
 // The entries of the two tables: the counting table has one for each node, the step table one for each step of the walk.
-ghost use Rattle.std.specs.Prelude.{◌≡◌, ◌+◌, ◌<◌, ◌≤◌, length, slice_set};
+// Both are records of C's, lent by the caller and of numbers only, so that a table of zeros is an empty one.
+ghost use Rattle.std.specs.Prelude.{◌≡◌};
 ghost use Rattle.walk.specs.declared.entry.Counted.{Counted};
 ghost use Rattle.walk.specs.declared.entry.Step.{Step};
-ghost use Rattle.walk.specs.Entries.{empty_counted, empty_step, entry_at, replaced, made};
+ghost use Rattle.walk.specs.declared.entry.StepKind.{StepKind};
+ghost use Rattle.walk.specs.Entries.{empty_counted, empty_step, made, step_number, kind_of, StepKindOf};
 
+use std::error::Error;
+use std::fmt;
 use tables::Empty;
 
 // What is known of a node.
@@ -30,20 +34,80 @@ impl Empty for Counted {
     }
 }
 
-// a node met first
-pub const FIRST: u32 = 1;
-// a node met again
-pub const AGAIN: u32 = 2;
-// the end of a collection
-pub const LEAVE: u32 = 3;
+// What a step of the walk does; the numbers are those in the step table.
+#[derive(Clone, Copy, PartialEq, Eq, Debug)]
+pub enum StepKind {
+    // it meets a node first
+    First = 1,
+    // it meets a node again
+    Again,
+    // it ends a collection
+    Leave,
+}
+
+// A number that no step has.
+#[derive(Clone, Copy, PartialEq, Eq, Debug)]
+pub struct NoSuchStep(pub u32);
+
+// The number of a kind of steps.
+impl From<StepKind> for u32 {
+    ghost from_gives = { λ kind what. what ≡ step_number kind };
+
+    fn from(kind: StepKind) -> u32 {
+        kind as u32
+    }
+}
+
+// The kind of steps of that number, if there is one.
+impl TryFrom<u32> for StepKind {
+    type Error = NoSuchStep;
+
+    ghost try_from_gives = { StepKindOf };
+
+    fn try_from(what: u32) -> Result<StepKind, NoSuchStep> {
+        match what {
+            1 => Ok(StepKind::First),
+            2 => Ok(StepKind::Again),
+            3 => Ok(StepKind::Leave),
+            _ => Err(NoSuchStep(what)),
+        }
+    }
+}
+
+impl fmt::Display for NoSuchStep {
+    fn fmt<W: fmt::Write>(&self, f: &mut fmt::Formatter<W>) -> fmt::Result {
+        write!(f, "no step has the number {}", self.0)
+    }
+}
+
+impl Error for NoSuchStep {}
 
 // One step of the walk.
 #[repr(C)]
 #[derive(Clone, Copy, PartialEq, Eq, Debug)]
 pub struct Step {
-    // 1 a node met first, 2 a node met again, 3 the end of a collection; 0 only in an empty entry
+    // the number of what it does; 0 only in an empty entry
     pub what: u32,
     pub node: u32,
+}
+
+impl Step {
+    // The step that does this to a node.
+    pub fn new(kind: StepKind, node: u32) -> Step
+        ensures { result ≡ made (step_number kind) node }
+    {
+        Step {
+            what: u32::from(kind),
+            node,
+        }
+    }
+
+    // What it does; an empty entry does nothing.
+    pub fn kind(&self) -> Option<StepKind>
+        ensures { result ≡ kind_of self.now.what }
+    {
+        StepKind::try_from(self.what).ok()
+    }
 }
 
 impl Empty for Step {
@@ -54,32 +118,9 @@ impl Empty for Step {
     }
 }
 
-// The entry of a node.
-pub(crate) fn entry(counting: &[Counted], node: u32) -> Counted
-    requires low { 1 ≤ node }
-    requires high { node ≤ length counting.now }
-    ensures { result ≡ entry_at counting.now node }
-{
-    counting[node as usize - 1]
-}
+// The numbers of the kinds of steps, for those who read them by number.
+pub const FIRST: u32 = 1;
 
-// Puts another entry for a node.
-pub(crate) fn replace(counting: &mut [Counted], node: u32, with: Counted)
-    requires low { 1 ≤ node }
-    requires high { node ≤ length counting.old }
-    ensures { counting.new ≡ replaced counting.old node with }
-{
-    counting[node as usize - 1] = with;
-}
+pub const AGAIN: u32 = 2;
 
-// Writes a step where the table has room for it, and counts it in any case.
-pub(crate) fn put(steps: &mut [Step], at: usize, what: u32, node: u32) -> usize
-    requires { at < 100000 }
-    ensures count { result ≡ at + 1 }
-    ensures wrote { steps.new ≡ slice_set steps.old at (made what node) }
-{
-    if at < steps.len() {
-        steps[at] = Step { what, node };
-    }
-    at + 1
-}
+pub const LEAVE: u32 = 3;

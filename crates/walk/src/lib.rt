@@ -1,6 +1,7 @@
 // Before a Document is written: which of its nodes get an anchor, how an anchor is written, and the steps of the walk over its nodes.
 #![tactic(auto)]
 
+mod anchor;
 mod count;
 mod dump;
 pub mod entry;
@@ -9,6 +10,7 @@ mod look;
 pub mod name;
 pub mod planning;
 
-pub use entry::{Counted, Step};
-pub use name::{AnchorName, generate_anchor};
+pub use anchor::generate_anchor;
+pub use entry::{Counted, Step, StepKind};
+pub use name::AnchorName;
 pub use planning::{Unplanned, anchor_of, clear_plan, make_plan};

@@ -1,39 +1,30 @@
-// How an anchor is written.
-ghost use Rattle.std.specs.Prelude.{◌≡◌, ◌+◌, ◌<◌};
-ghost use Rattle.serial.specs.Numbering.{name};
-ghost use Rattle.walk.specs.Names.{name_in};
+// An anchor as it is written.
+ghost use Rattle.std.specs.Prelude.{◌≡◌, ◌≤◌, []};
 
-// The bytes of an anchor: the first `len` of these.
 #[derive(Clone, Copy, Debug)]
 pub struct AnchorName {
     pub bytes: [u8; 8],
+    // so many of them
     pub len: usize,
+    ghost within: { len ≤ 8 },
 }
 
-fn digit(n: u32) -> u8
-    requires { n < 10 }
-    ensures { result ≡ 48 + n }
-{
-    48 + n as u8
-}
+impl AnchorName {
+    ghost use Rattle.walk.specs.Names.{name_in};
 
-// `id` and the number with at least three digits.
-pub fn generate_anchor(number: u32) -> AnchorName
-    requires { number < 10000 }
-    ensures { name_in result ≡ name number }
-{
-    let hundreds = digit(number / 100 % 10);
-    let tens = digit(number / 10 % 10);
-    let ones = digit(number % 10);
-    if number < 1000 {
-        return AnchorName {
-            bytes: [b'i', b'd', hundreds, tens, ones, 0, 0, 0],
-            len: 5,
-        };
+    // Where there is no anchor.
+    pub fn none() -> AnchorName
+        ensures { name_in result ≡ [] }
+    {
+        AnchorName {
+            bytes: [0; 8],
+            len: 0,
+        }
     }
-    let thousands = digit(number / 1000);
-    AnchorName {
-        bytes: [b'i', b'd', thousands, hundreds, tens, ones, 0, 0],
-        len: 6,
+
+    pub fn as_bytes(&self) -> &[u8]
+        ensures { result.now ≡ name_in self.now }
+    {
+        &self.bytes[..self.len]
     }
 }

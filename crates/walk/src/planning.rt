@@ -5,8 +5,8 @@ ghost use Rattle.walk.specs.Entries.{entry_at, empty_counted, empty_step};
 ghost use Rattle.walk.specs.Plans.{lacks, first_lacking, Prepared, Plans, Determined};
 
 use crate::count::anchor_node;
-use crate::dump::{Walked, dump_node};
-use crate::entry::{AGAIN, Counted, Step};
+use crate::dump::{TooDeep, Walk};
+use crate::entry::{Counted, Step, StepKind};
 use document::Document;
 use tables::clear;
 
@@ -23,6 +23,17 @@ pub enum Unplanned {
     TooFewSteps,
     // 58: the node is met again and has no anchor; it is the first such
     NoAnchor(u32),
+}
+
+impl From<TooDeep> for Unplanned {
+    ghost use Rattle.std.specs.Prelude.{◌≡◌};
+    ghost use Rattle.walk.specs.declared.planning.Unplanned.TheVariants.{TooDeep as Deep};
+
+    ghost from_gives = { λ _ why. why ≡ Deep };
+
+    fn from(_deep: TooDeep) -> Unplanned {
+        Unplanned::TooDeep
+    }
 }
 
 // Sets the counter back to 0 on every way out.
@@ -55,19 +66,15 @@ pub fn anchor_of(counting: &[Counted], node: u32) -> u32
 fn lacks_anchor(counting: &[Counted], step: Step) -> bool
     ensures { result ≡ lacks counting.now step }
 {
-    if step.what != AGAIN {
-        return false;
-    }
-    anchor_of(counting, step.node) == 0
+    matches!(step.kind(), Some(StepKind::Again)) && anchor_of(counting, step.node) == 0
 }
 
 // The first node that is met again and has no anchor.
 fn first_lacking(counting: &[Counted], steps: &[Step]) -> Option<u32>
     ensures { result ≡ first_lacking counting.now steps.now }
 {
-    for i in 0..steps.len() {
-        let step = steps[i];
-        if lacks_anchor(counting, step) {
+    for step in steps {
+        if lacks_anchor(counting, *step) {
             return Some(step.node);
         }
     }
@@ -84,14 +91,21 @@ fn plan_walk(
     ensures { Plans (book_of d.now).nodes (length counting.old) steps.old result counting.new steps.new }
 {
     d.sound();
-    let walked = dump_node(d, counting, steps, 0, 1, 0);
-    let Walked::To(count) = walked else {
-        return Err(Unplanned::TooDeep);
+    let mut walk = Walk {
+        counting,
+        steps,
+        count: 0,
     };
+    walk.dump_node(d, 1, 0)?;
+    let Walk {
+        counting,
+        steps,
+        count,
+    } = walk;
     if count > steps.len() {
         return Err(Unplanned::TooFewSteps);
     }
-    match first_lacking(counting, &steps[0..count]) {
+    match first_lacking(counting, &steps[..count]) {
         Some(node) => Err(Unplanned::NoAnchor(node)),
         None => Ok(count),
     }

@@ -4,11 +4,11 @@ use Rattle.walk.proofs.planning.first_lacking.Goals as goal
 
 pub returns-then-lacks_anchor : goal.returns-then-lacks_anchor
 returns-then-lacks_anchor c =
-    sym (lacking_here c.args.counting.now c.args.steps.now c.loop-i.i c.loop-i-test.true (sym c.lacks_anchor.ensures ∙ c.if-lacks_anchor.true)) ∙ c.loop-i.invariant
+    sym (lacking_here c.args.counting.now c.args.steps.now c.loop-step.step-index c.loop-step-test.true (sym c.lacks_anchor.ensures ∙ c.if-lacks_anchor.true)) ∙ c.loop-step.invariant
 
-pub loop-i-preserved : goal.loop-i-preserved
-loop-i-preserved c =
-    sym (lacking_later c.args.counting.now c.args.steps.now c.loop-i.i c.loop-i-test.true (sym c.lacks_anchor.ensures ∙ c.if-lacks_anchor.false)) ∙ c.loop-i.invariant
+pub loop-step-preserved : goal.loop-step-preserved
+loop-step-preserved c =
+    sym (lacking_later c.args.counting.now c.args.steps.now c.loop-step.step-index c.loop-step-test.true (sym c.lacks_anchor.ensures ∙ c.if-lacks_anchor.false)) ∙ c.loop-step.invariant
 
 pub returns : goal.returns
-returns c = sym (lacking_none c.args.counting.now c.args.steps.now c.loop-i.i c.loop-i-test.false) ∙ c.loop-i.invariant
+returns c = sym (lacking_none c.args.counting.now c.args.steps.now c.loop-step.step-index c.loop-step-test.false) ∙ c.loop-step.invariant
