@@ -60,11 +60,11 @@ mod plans {
     #[test]
     fn names(rt: HostRuntime) {
         let seven = generate_anchor(7);
-        assert_eq!(rt; seven.len, 5);
-        assert_eq!(rt; seven.bytes[4], b'7');
+        assert_eq!(rt; seven.as_bytes().len(), 5);
+        assert_eq!(rt; seven.as_bytes()[4], b'7');
         let thousand = generate_anchor(1000);
-        assert_eq!(rt; thousand.len, 6);
-        assert_eq!(rt; thousand.bytes[2], b'1');
+        assert_eq!(rt; thousand.as_bytes().len(), 6);
+        assert_eq!(rt; thousand.as_bytes()[2], b'1');
     }
 
     // a mapping whose key is its value
