@@ -4,36 +4,37 @@ use Rattle.std.proofs.lemmas.List.{take_all, take_more}
 use Rattle.std.proofs.lemmas.Bool.{and_parts, and_from}
 use Rattle.model.specs.Graph.{nth, numbered}
 use Rattle.document.specs.declared.node.Node.{Node}
-use Rattle.document.specs.Questions.{every, kind_right, tag_right, value_right, links_right}
+use Rattle.std.specs.List.{list_all}
+use Rattle.document.specs.Questions.{kind_right, tag_right, value_right, links_right}
 
 -- all four questions at once
 abbrev pub node_right : ℕ → List ℕ → List ℕ → Node → Bool
 node_right n links text v = kind_right v && (tag_right text v && (value_right text v && links_right n links v))
 
-pub every_push : {X : Type 0} (p : X → Bool) (xs : List X) (x : X) → every p xs ≡ true → p x ≡ true → every p (xs ++ x ∷ []) ≡ true
+pub every_push : {X : Type 0} (p : X → Bool) (xs : List X) (x : X) → list_all p xs ≡ true → p x ≡ true → list_all p (xs ++ x ∷ []) ≡ true
 every_push p [] x all one = and_from (p x) true one refl
 every_push p (y ∷ ys) x all one =
-    let both = and_parts (p y) (every p ys) all in
-    and_from (p y) (every p (ys ++ x ∷ [])) both.0 (every_push p ys x both.1 one)
+    let both = and_parts (p y) (list_all p ys) all in
+    and_from (p y) (list_all p (ys ++ x ∷ [])) both.0 (every_push p ys x both.1 one)
 
-pub every_more : {X : Type 0} (p : X → Bool) (xs : List X) (i : ℕ) (d : X) → i < length xs → every p (take i xs) ≡ true → p (get_or xs i d) ≡ true → every p (take (i + 1) xs) ≡ true
-every_more p xs i d h all one = ap (every p) (take_more xs i d h) ∙ every_push p (take i xs) (get_or xs i d) all one
+pub every_more : {X : Type 0} (p : X → Bool) (xs : List X) (i : ℕ) (d : X) → i < length xs → list_all p (take i xs) ≡ true → p (get_or xs i d) ≡ true → list_all p (take (i + 1) xs) ≡ true
+every_more p xs i d h all one = ap (list_all p) (take_more xs i d h) ∙ every_push p (take i xs) (get_or xs i d) all one
 
 -- an entry below i passes if the first i do
-pub every_nth : {X : Type 0} (p : X → Bool) (xs : List X) (i j : ℕ) (x : X) → every p (take i xs) ≡ true → j < i → nth xs j ≡ Some x → p x ≡ true
+pub every_nth : {X : Type 0} (p : X → Bool) (xs : List X) (i j : ℕ) (x : X) → list_all p (take i xs) ≡ true → j < i → nth xs j ≡ Some x → p x ≡ true
 every_nth p [] i j x all below e = let z : ◌≡◌ {A = ℕ} 0 1 = cc in absurd (omega arith)
 every_nth p (y ∷ ys) zero j x all below e = absurd (omega arith)
 every_nth p (y ∷ ys) (suc i) zero x all below e =
     let same : y ≡ x = cc in
-    ap p (sym same) ∙ (and_parts (p y) (every p (take i ys)) all).0
-every_nth p (y ∷ ys) (suc i) (suc j) x all below e = every_nth p ys i j x (and_parts (p y) (every p (take i ys)) all).1 (omega arith) e
+    ap p (sym same) ∙ (and_parts (p y) (list_all p (take i ys)) all).0
+every_nth p (y ∷ ys) (suc i) (suc j) x all below e = every_nth p ys i j x (and_parts (p y) (list_all p (take i ys)) all).1 (omega arith) e
 
 -- a test that follows from another
-pub every_weaker : {X : Type 0} (p q : X → Bool) (xs : List X) → ((x : X) → p x ≡ true → q x ≡ true) → every p xs ≡ true → every q xs ≡ true
+pub every_weaker : {X : Type 0} (p q : X → Bool) (xs : List X) → ((x : X) → p x ≡ true → q x ≡ true) → list_all p xs ≡ true → list_all q xs ≡ true
 every_weaker p q [] h all = refl
 every_weaker p q (x ∷ xs) h all =
-    let both = and_parts (p x) (every p xs) all in
-    and_from (q x) (every q xs) (h x both.0) (every_weaker p q xs h both.1)
+    let both = and_parts (p x) (list_all p xs) all in
+    and_from (q x) (list_all q xs) (h x both.0) (every_weaker p q xs h both.1)
 
 pub nth_at : {X : Type 0} (xs : List X) (i : ℕ) (d : X) → i < length xs → nth xs i ≡ Some (get_or xs i d)
 nth_at [] i d h = absurd (omega arith)
@@ -54,7 +55,7 @@ pub numbered_at : {X : Type 0} (xs : List X) (i : ℕ) (d : X) → i < length xs
 numbered_at xs i d h = rw add-one (nth_at xs i d h)
 
 -- an entry of a number up to i passes if the first i do
-pub every_numbered : {X : Type 0} (p : X → Bool) (xs : List X) (i j : ℕ) (x : X) → every p (take i xs) ≡ true → j ≤ i → numbered xs j ≡ Some x → p x ≡ true
+pub every_numbered : {X : Type 0} (p : X → Bool) (xs : List X) (i j : ℕ) (x : X) → list_all p (take i xs) ≡ true → j ≤ i → numbered xs j ≡ Some x → p x ≡ true
 every_numbered p xs i zero x all below e = let z : ◌≡◌ {A = ℕ} 0 1 = cc in absurd (omega arith)
 every_numbered p xs i (suc j) x all below e = every_nth p xs i j x all (omega arith) e
 
@@ -63,6 +64,6 @@ numbered_below xs zero x e = omega arith
 numbered_below xs (suc j) x e = let h = nth_below xs j x e in omega arith
 
 -- an entry passes if all do
-pub every_at : {X : Type 0} (p : X → Bool) (xs : List X) (j : ℕ) (x : X) → every p xs ≡ true → numbered xs j ≡ Some x → p x ≡ true
+pub every_at : {X : Type 0} (p : X → Bool) (xs : List X) (j : ℕ) (x : X) → list_all p xs ≡ true → numbered xs j ≡ Some x → p x ≡ true
 every_at p xs j x all e =
-    every_numbered p xs (length xs) j x (ap (every p) (take_all (length xs) xs (omega arith)) ∙ all) (numbered_below xs j x e) e
+    every_numbered p xs (length xs) j x (ap (list_all p) (take_all (length xs) xs (omega arith)) ∙ all) (numbered_below xs j x e) e

@@ -4,7 +4,8 @@ use Rattle.std.proofs.lemmas.Bool.{and_parts, and_from}
 use Rattle.document.specs.declared.node.Node.{Node}
 use Rattle.document.specs.declared.refusal.Question.{Question}
 use Rattle.document.specs.declared.refusal.Question.TheVariants.{Count, Kind, Tag, Value, Links, Sums}
-use Rattle.document.specs.Questions.{every, kind_right, tag_right, value_right, links_right}
+use Rattle.std.specs.List.{list_all}
+use Rattle.document.specs.Questions.{kind_right, tag_right, value_right, links_right}
 use Rattle.document.specs.Check.{asked, Right, Wrong, AllRight, FirstFault}
 use Rattle.document.proofs.Every.{node_right, every_weaker, every_numbered, numbered_at}
 
@@ -29,7 +30,7 @@ right_asked n links text v r Value = r.value
 right_asked n links text v r Links = r.linked
 right_asked n links text v r Sums = refl
 
-pub all_right : (nodes : List Node) (links text : List ℕ) → every (node_right (length nodes) links text) nodes ≡ true → AllRight nodes links text
+pub all_right : (nodes : List Node) (links text : List ℕ) → list_all (node_right (length nodes) links text) nodes ≡ true → AllRight nodes links text
 all_right nodes links text e =
     let n = length nodes in
     record {
@@ -41,7 +42,7 @@ all_right nodes links text e =
 
 pub first_fault :
     (nodes : List Node) (links text : List ℕ) (i : ℕ) (d : Node) (q : Question) → i < length nodes
-    → every (node_right (length nodes) links text) (take i nodes) ≡ true → Wrong (length nodes) links text (get_or nodes i d) q
+    → list_all (node_right (length nodes) links text) (take i nodes) ≡ true → Wrong (length nodes) links text (get_or nodes i d) q
     → FirstFault nodes links text q (i + 1)
 first_fault nodes links text i d q below passed wrong =
     let n = length nodes in

@@ -1,7 +1,6 @@
 -- From the tables cut to their space back to the tables handed in.
-use Rattle.std.proofs.Common.{◌≡◌, ℕ, ◌≤◌, min, Bool, List, length, take, sym, ap, ◌∙◌, subst, ⊎_elim, arith}
-use Rattle.std.proofs.lemmas.List.{take_all}
-use Rattle.std.proofs.lemmas.Bool.{cases_lt}
+use Rattle.std.proofs.Common.{◌≡◌, ℕ, ◌≤◌, min, Bool, List, length, take, ap, ◌∙◌, subst, arith}
+use Rattle.std.proofs.lemmas.List.{take_min}
 use Rattle.document.specs.declared.node.Node.{Node}
 use Rattle.document.specs.declared.refusal.Question.{Question}
 use Rattle.document.specs.declared.refusal.Question.TheVariants.{Count, Kind, Tag, Value, Links, Sums}
@@ -11,11 +10,7 @@ use Rattle.document.specs.Books.{Stands}
 
 -- the entries within the space are those up to the limit
 pub take_space : {X : Type 0} (k m : ℕ) (xs : List X) → k ≡ min (length xs) m → take k xs ≡ take m xs
-take_space k m xs e =
-    ⊎_elim
-    (λ less. let long : k ≡ length xs = omega arith in take_all k xs (omega arith) ∙ sym (take_all m xs (omega arith)))
-    (λ more. let short : k ≡ m = omega arith in ap (λ n. take n xs) short)
-    (cases_lt (length xs) m)
+take_space k m xs e = let same : k ≡ min m (length xs) = omega (arith, e) in ap (λ n. take n xs) same ∙ take_min m xs
 
 refused_by : (h : Handed) (q : Question) (k : ℕ) → h.count ≤ nodes_space h → FaultBy (nodes_in h) (links_in h) (text_in h) q k → RefusedBy h q k
 refused_by h Count k enough f = absurd f

@@ -1,5 +1,5 @@
 -- The graph of every Document is sound.
-use Rattle.std.proofs.Common.{◌≡◌, ℕ, ◌%◌, ◌≤◌, true, false, not, ◌&&◌, ◌||◌, eqb, leb, ◌⊎◌, List, [], ◌∷◌, length, sum_by, sym, refl, ap, ◌∙◌, subst, inl, inr, ⊎_elim, arith}
+use Rattle.std.proofs.Common.{◌≡◌, ℕ, ◌%◌, ◌≤◌, true, false, not, ◌&&◌, ◌||◌, eqb, leb, List, [], ◌∷◌, length, sum_by, sym, refl, ap, ◌∙◌, subst, ⊎_elim, arith}
 use lib.ListN.{length-map}
 use Rattle.std.proofs.lemmas.List.{nil_from_length}
 use Rattle.std.proofs.ByRecursion.{All-map}
@@ -11,28 +11,12 @@ use Rattle.model.specs.declared.NodeKind.TheVariants.{Scalar, Sequence, Mapping}
 use Rattle.model.specs.Events.{zero_free}
 use Rattle.document.specs.declared.node.Node.{Node}
 use Rattle.document.specs.declared.standing.Document.{Document}
-use Rattle.document.specs.Questions.{lies, every, kind_right, tag_right, value_right, links_right, names, bang, tag_of, value_of, links_of, link_count, text_length, link_total, text_total}
+use Rattle.std.specs.List.{list_all}
+use Rattle.document.specs.Questions.{lies, kind_right, tag_right, value_right, links_right, names, bang, tag_of, value_of, links_of, link_count, text_length, link_total, text_total}
 use Rattle.document.specs.Check.{Right}
 use Rattle.document.specs.Books.{kind_of, vertex_of, book_of, graph_of}
 use Rattle.document.specs.Sound.{most_style_of, Names, ByKind, IsSoundVertex, link_length, text_bytes, SoundBook}
-use Rattle.document.proofs.Lookups.{tag_lies, value_lies, links_lie, length_part}
-
--- a node of a kind, with a style that it may have
-record OfKind (v : Node) (k : ℕ) (most : ℕ) : Type 0 where
-  kind : v.kind ≡ k
-  style : v.style ≤ most
-
-kinds : (v : Node) → kind_right v ≡ true → OfKind v 1 5 ⊎ (OfKind v 2 2 ⊎ OfKind v 3 2)
-kinds v e =
-    ⊎_elim
-    (λ a. let both = and_parts (eqb v.kind 1) (leb v.style 5) a in
-    inl record { kind = eqb-true v.kind 1 both.0; style = leb-true v.style 5 both.1 })
-    (λ a. let both = and_parts (eqb v.kind 2 || eqb v.kind 3) (leb v.style 2) a in
-    inr (⊎_elim
-    (λ b. inl record { kind = eqb-true v.kind 2 b; style = leb-true v.style 2 both.1 })
-    (λ b. inr record { kind = eqb-true v.kind 3 b; style = leb-true v.style 2 both.1 })
-    (or_cases (eqb v.kind 2) (eqb v.kind 3) both.0)))
-    (or_cases (eqb v.kind 1 && leb v.style 5) ((eqb v.kind 2 || eqb v.kind 3) && leb v.style 2) e)
+use Rattle.document.proofs.Lookups.{kinds, tag_lies, value_lies, links_lie, length_part}
 
 -- what a tag that is right is
 record TagFacts (text : List ℕ) (v : Node) : Type 0 where
@@ -73,7 +57,7 @@ scalar_value text v k e =
 scalar_links : (n : ℕ) (links : List ℕ) (v : Node) → v.kind ≡ 1 → links_right n links v ≡ true → links_of links v ≡ []
 scalar_links n links v k e =
     let scalar = eqb v.first_link 0 && eqb v.link_count 0 in
-    let inner = (not (eqb v.kind 3) || eqb (v.link_count % 2) 0) && every (names n) (links_of links v) in
+    let inner = (not (eqb v.kind 3) || eqb (v.link_count % 2) 0) && list_all (names n) (links_of links v) in
     let other = lies links v.first_link v.link_count && inner in
     let both = and_parts (eqb v.first_link 0) (eqb v.link_count 0) (sym (cond-true (eqb v.kind 1) scalar other (eq-eqb v.kind 1 k)) ∙ e) in
     nil_from_length (links_of links v) (links_long n links v e ∙ eqb-true v.link_count 0 both.1)
@@ -88,13 +72,13 @@ collection_value text v k e =
 
 record LinkFacts (n : ℕ) (links : List ℕ) (v : Node) : Type 0 where
   even : (not (eqb v.kind 3) || eqb (v.link_count % 2) 0) ≡ true
-  named : every (names n) (links_of links v) ≡ true
+  named : list_all (names n) (links_of links v) ≡ true
 
 collection_links : (n : ℕ) (links : List ℕ) (v : Node) → (v.kind ≡ 1 → ⊥) → links_right n links v ≡ true → LinkFacts n links v
 collection_links n links v k e =
     let scalar = eqb v.first_link 0 && eqb v.link_count 0 in
     let even = not (eqb v.kind 3) || eqb (v.link_count % 2) 0 in
-    let named = every (names n) (links_of links v) in
+    let named = list_all (names n) (links_of links v) in
     let other = lies links v.first_link v.link_count && (even && named) in
     let both = and_parts (lies links v.first_link v.link_count) (even && named) (sym (cond-false (eqb v.kind 1) scalar other (ne_eqb v.kind 1 k)) ∙ e) in
     let two = and_parts even named both.1 in
@@ -107,10 +91,10 @@ mapping_even v k e =
     (λ a. eqb-true (v.link_count % 2) 0 a)
     (or_cases (not (eqb v.kind 3)) (eqb (v.link_count % 2) 0) e)
 
-all_names : (n : ℕ) (ls : List ℕ) → every (names n) ls ≡ true → AllByRecursion (Names n) ls
+all_names : (n : ℕ) (ls : List ℕ) → list_all (names n) ls ≡ true → AllByRecursion (Names n) ls
 all_names n [] e = tt
 all_names n (l ∷ ls) e =
-    let both = and_parts (names n l) (every (names n) ls) e in
+    let both = and_parts (names n l) (list_all (names n) ls) e in
     let two = and_parts (leb 1 l) (leb l n) both.0 in
     (record { low = leb-true 1 l two.0; high = leb-true l n two.1 }, all_names n ls both.1)
 
@@ -158,20 +142,20 @@ sound_vertex n links text v r =
 
 -- every vertex
 sound_vertices :
-    (n : ℕ) (links text : List ℕ) (vs : List Node) → every kind_right vs ≡ true → every (tag_right text) vs ≡ true → every (value_right text) vs ≡ true
-    → every (links_right n links) vs ≡ true → AllByRecursion (λ v. IsSoundVertex n (vertex_of links text v)) vs
+    (n : ℕ) (links text : List ℕ) (vs : List Node) → list_all kind_right vs ≡ true → list_all (tag_right text) vs ≡ true → list_all (value_right text) vs ≡ true
+    → list_all (links_right n links) vs ≡ true → AllByRecursion (λ v. IsSoundVertex n (vertex_of links text v)) vs
 sound_vertices n links text [] a b d e = tt
 sound_vertices n links text (v ∷ vs) a b d e =
-    let k = and_parts (kind_right v) (every kind_right vs) a in
-    let t = and_parts (tag_right text v) (every (tag_right text) vs) b in
-    let w = and_parts (value_right text v) (every (value_right text) vs) d in
-    let l = and_parts (links_right n links v) (every (links_right n links) vs) e in
+    let k = and_parts (kind_right v) (list_all kind_right vs) a in
+    let t = and_parts (tag_right text v) (list_all (tag_right text) vs) b in
+    let w = and_parts (value_right text v) (list_all (value_right text) vs) d in
+    let l = and_parts (links_right n links v) (list_all (links_right n links) vs) e in
     (sound_vertex n links text v record { kind = k.0; tag = t.0; value = w.0; linked = l.0 }, sound_vertices n links text vs k.1 t.1 w.1 l.1)
 
-link_sums : (n : ℕ) (links text : List ℕ) (vs : List Node) → every (links_right n links) vs ≡ true → sum_by link_length (graph_of vs links text) ≡ link_total vs
+link_sums : (n : ℕ) (links text : List ℕ) (vs : List Node) → list_all (links_right n links) vs ≡ true → sum_by link_length (graph_of vs links text) ≡ link_total vs
 link_sums n links text [] e = refl
 link_sums n links text (v ∷ vs) e =
-    let both = and_parts (links_right n links v) (every (links_right n links) vs) e in
+    let both = and_parts (links_right n links v) (list_all (links_right n links) vs) e in
     let here = links_long n links v both.0 in
     let rest = link_sums n links text vs both.1 in
     let left = sum_by-cons link_length (vertex_of links text v) (graph_of vs links text) in
@@ -179,12 +163,12 @@ link_sums n links text (v ∷ vs) e =
     omega arith
 
 text_sums :
-    (links text : List ℕ) (vs : List Node) → every (tag_right text) vs ≡ true → every (value_right text) vs ≡ true
+    (links text : List ℕ) (vs : List Node) → list_all (tag_right text) vs ≡ true → list_all (value_right text) vs ≡ true
     → sum_by text_bytes (graph_of vs links text) ≡ text_total vs
 text_sums links text [] a b = refl
 text_sums links text (v ∷ vs) a b =
-    let t = and_parts (tag_right text v) (every (tag_right text) vs) a in
-    let w = and_parts (value_right text v) (every (value_right text) vs) b in
+    let t = and_parts (tag_right text v) (list_all (tag_right text) vs) a in
+    let w = and_parts (value_right text v) (list_all (value_right text) vs) b in
     let tag = (tag_facts text v t.0).long in
     let value = value_long text v w.0 in
     let rest = text_sums links text vs t.1 w.1 in

@@ -7,7 +7,8 @@ use Rattle.document.specs.declared.refusal.Question.{Question}
 use Rattle.document.specs.declared.refusal.Question.TheVariants.{Count, Kind, Tag, Value, Links, Sums}
 use Rattle.document.specs.declared.refusal.Refusal.{Refusal}
 use Rattle.document.specs.Numbers.{question_number}
-use Rattle.document.specs.Questions.{every, kind_right, tag_right, value_right, links_right, sums_right}
+use Rattle.std.specs.List.{list_all}
+use Rattle.document.specs.Questions.{kind_right, tag_right, value_right, links_right, sums_right}
 
 -- a question's answer at a node of n; the first and the last question are not asked of single nodes
 abbrev pub asked : Question → ℕ → List ℕ → List ℕ → Node → Bool
@@ -36,10 +37,10 @@ Examined n links text v (Some q) = Wrong n links text v q
 
 -- every node is right
 pub record AllRight (nodes : List Node) (links text : List ℕ) : Type 0 where
-  pub kinds : every kind_right nodes ≡ true
-  pub tags : every (tag_right text) nodes ≡ true
-  pub values : every (value_right text) nodes ≡ true
-  pub linked : every (links_right (length nodes) links) nodes ≡ true
+  pub kinds : list_all kind_right nodes ≡ true
+  pub tags : list_all (tag_right text) nodes ≡ true
+  pub values : list_all (value_right text) nodes ≡ true
+  pub linked : list_all (links_right (length nodes) links) nodes ≡ true
 
 -- Node k, from 1, is the first that fails a question, and q is the first that it fails.
 pub record FirstFault (nodes : List Node) (links text : List ℕ) (q : Question) (k : ℕ) : Type 0 where

@@ -1,5 +1,6 @@
 -- The questions that are asked of each node of a document, and of all of them together.
-use Rattle.std.specs.Prelude.{ℕ, ◌+◌, ◌%◌, Bool, true, false, cond, not, ◌&&◌, ◌||◌, List, [], ◌∷◌, length, take, drop, sum_by, ◌==◌, nat_le}
+use Rattle.std.specs.Prelude.{ℕ, ◌+◌, ◌%◌, Bool, false, cond, not, ◌&&◌, ◌||◌, List, [], ◌∷◌, length, take, drop, sum_by, ◌==◌, nat_le}
+use Rattle.std.specs.List.{list_all}
 use Rattle.model.specs.Events.{zero_free}
 use Rattle.document.specs.declared.node.Node.{Node}
 
@@ -10,11 +11,6 @@ part xs place n = take n (drop place xs)
 -- it lies in the table
 abbrev pub lies : {X : Type 0} → List X → ℕ → ℕ → Bool
 lies xs place n = nat_le (place + n) (length xs)
-
--- a test of each entry
-abbrev pub every : {X : Type 0} → (X → Bool) → List X → Bool
-every p [] = true
-every p (x ∷ xs) = p x && every p xs
 
 -- 42: a scalar has style 0 to 5, a sequence or a mapping 0 to 2
 abbrev pub kind_right : Node → Bool
@@ -57,7 +53,7 @@ abbrev pub links_right : ℕ → List ℕ → Node → Bool
 links_right n links v =
     cond (v.kind == 1)
     (v.first_link == 0 && v.link_count == 0)
-    (lies links v.first_link v.link_count && ((not (v.kind == 3) || v.link_count % 2 == 0) && every (names n) (links_of links v)))
+    (lies links v.first_link v.link_count && ((not (v.kind == 3) || v.link_count % 2 == 0) && list_all (names n) (links_of links v)))
 
 abbrev pub link_count : Node → ℕ
 link_count v = v.link_count

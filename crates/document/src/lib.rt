@@ -11,5 +11,5 @@ pub mod standing;
 pub use handed::Handed;
 pub use model::{Mark, NodeKind};
 pub use node::Node;
-pub use refusal::{Question, Refusal, question_number};
+pub use refusal::{Question, Refusal};
 pub use standing::Document;

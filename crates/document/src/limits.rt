@@ -17,5 +17,5 @@ pub const MAX_OPEN: usize = 256;
 pub fn space(length: usize, limit: usize) -> usize
     ensures { result ≡ min length limit }
 {
-    if length < limit { length } else { limit }
+    length.min(limit)
 }

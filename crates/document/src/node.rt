@@ -2,13 +2,13 @@
 ghost use Rattle.std.specs.Prelude.{◌≡◌};
 ghost use Rattle.document.specs.Empty.{empty_node};
 
-use model::Mark;
+use model::{Mark, NodeKind};
 use tables::Empty;
 
 // Links and texts are given by where they begin in their table, from 0, and by how many entries they have.
 // Fields foreign to the kind are 0: a scalar's links, a collection's value.
 #[repr(C)]
-#[derive(Clone, Copy, PartialEq, Eq, Debug)]
+#[derive(Clone, Copy, PartialEq, Eq, Debug, Default)]
 pub struct Node {
     // 1 scalar, 2 sequence, 3 mapping; 0 only in an empty entry
     pub kind: u8,
@@ -26,27 +26,22 @@ pub struct Node {
     pub end: Mark,
 }
 
+impl Node {
+    ghost use Rattle.std.specs.Prelude.{◌==◌};
+    ghost use Rattle.model.specs.Graph.{node_number};
+
+    // Whether it is of that kind.
+    pub(crate) fn is(&self, kind: NodeKind) -> bool
+        ensures { result ≡ (self.now.kind == node_number kind) }
+    {
+        self.kind == u8::from(kind)
+    }
+}
+
 impl Empty for Node {
     ghost empty = { empty_node };
 
     fn none() -> Node {
-        let zero = Mark {
-            index: 0,
-            line: 0,
-            column: 0,
-        };
-        Node {
-            kind: 0,
-            style: 0,
-            tag_length: 0,
-            value_length: 0,
-            filler: 0,
-            tag_start: 0,
-            value_start: 0,
-            first_link: 0,
-            link_count: 0,
-            start: zero,
-            end: zero,
-        }
+        Node::default()
     }
 }

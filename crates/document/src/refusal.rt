@@ -1,22 +1,34 @@
 // Why no Document stands on some tables.
-ghost use Rattle.std.specs.Prelude.{◌≡◌};
-ghost use Rattle.document.specs.Numbers.{question_number};
+use std::error::Error;
+use std::fmt;
 
-// The questions of the check, in the order in which they are asked.
+// The questions of the check, in the order in which they are asked, with the numbers that the programs tell.
 #[derive(Clone, Copy, PartialEq, Eq, Debug)]
 pub enum Question {
-    // 41: are there as many nodes?
-    Count,
-    // 42: are the node's kind and style allowed?
+    // are there as many nodes?
+    Count = 41,
+    // are the node's kind and style allowed?
     Kind,
-    // 43: is its tag 1 to 256 bytes of the text, without a zero byte, and not `!` alone?
+    // is its tag 1 to 256 bytes of the text, without a zero byte, and not `!` alone?
     Tag,
-    // 44: is its value at most 4,096 bytes of the text, and a collection's none?
+    // is its value at most 4,096 bytes of the text, and a collection's none?
     Value,
-    // 45: are its links in the table, each from 1 to the number of nodes, a mapping's an even number, a scalar's none?
+    // are its links in the table, each from 1 to the number of nodes, a mapping's an even number, a scalar's none?
     Links,
-    // 46: are there at most 16,384 links and 65,536 bytes of text in all nodes together?
+    // are there at most 16,384 links and 65,536 bytes of text in all nodes together?
     Sums,
+}
+
+impl Question {
+    ghost use Rattle.std.specs.Prelude.{◌≡◌};
+    ghost use Rattle.document.specs.Numbers.{question_number};
+
+    // The number of the question.
+    pub fn number(self) -> u8
+        ensures { result ≡ question_number self }
+    {
+        self as u8
+    }
 }
 
 // The first question whose answer is no, and the number of the node that it was asked of: 0 for the first and the last question.
@@ -26,16 +38,11 @@ pub struct Refusal {
     pub node: u32,
 }
 
-// The number of a question.
-pub fn question_number(question: Question) -> u8
-    ensures { result ≡ question_number question }
-{
-    match question {
-        Question::Count => 41,
-        Question::Kind => 42,
-        Question::Tag => 43,
-        Question::Value => 44,
-        Question::Links => 45,
-        Question::Sums => 46,
+// The refusal in words, as the programs print it after its number and its node.
+impl fmt::Display for Refusal {
+    fn fmt<W: fmt::Write>(&self, f: &mut fmt::Formatter<W>) -> fmt::Result {
+        f.write_str("no Document stands on the loaded tables")
     }
 }
+
+impl Error for Refusal {}

@@ -1,6 +1,7 @@
 // A Document: tables that passed the check, for as long as it stands.
 ghost use Rattle.std.specs.Prelude.{◌≡◌, ◌≤◌, true, length};
-ghost use Rattle.document.specs.Questions.{every, kind_right, tag_right, value_right, links_right, link_total, text_total};
+ghost use Rattle.std.specs.List.{list_all};
+ghost use Rattle.document.specs.Questions.{kind_right, tag_right, value_right, links_right, link_total, text_total};
 
 use crate::node::Node;
 
@@ -18,10 +19,10 @@ pub struct Document<'a> {
     start_implicit: bool,
     end_implicit: bool,
     ghost few: { length nodes.now ≤ 4096 },
-    ghost kinds: { every kind_right nodes.now ≡ true },
-    ghost tags: { every (tag_right text.now) nodes.now ≡ true },
-    ghost values: { every (value_right text.now) nodes.now ≡ true },
-    ghost linked: { every (links_right (length nodes.now) links.now) nodes.now ≡ true },
+    ghost kinds: { list_all kind_right nodes.now ≡ true },
+    ghost tags: { list_all (tag_right text.now) nodes.now ≡ true },
+    ghost values: { list_all (value_right text.now) nodes.now ≡ true },
+    ghost linked: { list_all (links_right (length nodes.now) links.now) nodes.now ≡ true },
     ghost few_links: { link_total nodes.now ≤ 16384 },
     ghost few_bytes: { text_total nodes.now ≤ 65536 },
 }

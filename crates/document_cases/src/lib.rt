@@ -1,74 +1,83 @@
 // Small documents at each limit and one past it: what the check says of them, and what reading them gives.
 #![tactic(auto)]
 
-use document::{Document, Handed, Node, question_number};
-use tables::Empty;
+use document::{Document, Handed, Node};
 
 // A scalar whose tag is the first byte of the text, without value.
 pub fn scalar() -> Node {
-    let mut node = <Node as Empty>::none();
-    node.kind = 1;
-    node.tag_length = 1;
-    node
+    Node {
+        kind: 1,
+        tag_length: 1,
+        ..Node::default()
+    }
 }
 
 // A collection of the kind with that many links from a place on.
 pub fn collection(kind: u8, first_link: u32, link_count: u32) -> Node {
-    let mut node = scalar();
-    node.kind = kind;
-    node.first_link = first_link;
-    node.link_count = link_count;
-    node
+    Node {
+        kind,
+        first_link,
+        link_count,
+        ..scalar()
+    }
 }
 
-// What the check says: the refusal's number and node, or 0 and 0.
-pub fn verdict<'x>(nodes: &'x [Node], links: &'x [u32], text: &'x [u8], n: usize) -> (u8, u32) {
+// What the check says: the refusal's number and node, if there is one.
+pub fn verdict<'x>(
+    nodes: &'x [Node],
+    links: &'x [u32],
+    text: &'x [u8],
+    count: usize,
+) -> Result<(), (u8, u32)> {
     let handed = Handed {
         nodes,
         links,
         text,
-        count: n,
+        count,
         start_implicit: false,
         end_implicit: false,
     };
     match Document::stand(handed) {
-        Ok(_) => (0, 0),
-        Err(refusal) => (question_number(refusal.question), refusal.node),
+        Ok(_) => Ok(()),
+        Err(refusal) => Err((refusal.question.number(), refusal.node)),
     }
 }
 
 // A scalar whose tag is that part of the text.
 pub fn tagged(start: u32, length: u16) -> Node {
-    let mut node = scalar();
-    node.tag_start = start;
-    node.tag_length = length;
-    node
+    Node {
+        tag_start: start,
+        tag_length: length,
+        ..scalar()
+    }
 }
 
 // A scalar whose value is that part of the text.
 pub fn valued(start: u32, length: u16) -> Node {
-    let mut node = scalar();
-    node.value_start = start;
-    node.value_length = length;
-    node
+    Node {
+        value_start: start,
+        value_length: length,
+        ..scalar()
+    }
 }
 
 // A node of that kind and style, without links.
 pub fn styled(kind: u8, style: u8) -> Node {
-    let mut node = scalar();
-    node.kind = kind;
-    node.style = style;
-    node
+    Node {
+        kind,
+        style,
+        ..scalar()
+    }
 }
 
 // What the check says of a node alone.
-pub fn alone(node: Node, text: &[u8]) -> (u8, u32) {
+pub fn alone(node: Node, text: &[u8]) -> Result<(), (u8, u32)> {
     let nodes = [node];
     verdict(&nodes, &[], text, 1)
 }
 
 // What the check says of a collection of that kind and a scalar after it, with these links.
-pub fn linked(kind: u8, count: u32, links: &[u32]) -> (u8, u32) {
+pub fn linked(kind: u8, count: u32, links: &[u32]) -> Result<(), (u8, u32)> {
     let nodes = [collection(kind, 0, count), scalar()];
     verdict(&nodes, links, b"t", 2)
 }
@@ -80,37 +89,35 @@ mod counts {
     #[test]
     fn as_many_as_the_table(rt: HostRuntime) {
         let nodes = [scalar(); 3];
-        assert_eq!(rt; verdict(&nodes, &[], b"t", 0), (0, 0));
-        assert_eq!(rt; verdict(&nodes, &[], b"t", 3), (0, 0));
-        assert_eq!(rt; verdict(&nodes, &[], b"t", 4), (41, 0));
+        assert_eq!(rt; verdict(&nodes, &[], b"t", 0), Ok(()));
+        assert_eq!(rt; verdict(&nodes, &[], b"t", 3), Ok(()));
+        assert_eq!(rt; verdict(&nodes, &[], b"t", 4), Err((41, 0)));
     }
 
     #[test]
     fn as_many_as_the_limit(rt: HostRuntime) {
         let nodes = [scalar(); 4097];
-        assert_eq!(rt; verdict(&nodes, &[], b"t", 4096), (0, 0));
-        assert_eq!(rt; verdict(&nodes, &[], b"t", 4097), (41, 0));
+        assert_eq!(rt; verdict(&nodes, &[], b"t", 4096), Ok(()));
+        assert_eq!(rt; verdict(&nodes, &[], b"t", 4097), Err((41, 0)));
     }
 
     #[test]
     fn links_in_all(rt: HostRuntime) {
         let links = [1u32; 4096];
         let mut nodes = [collection(2, 0, 4096); 5];
-        assert_eq!(rt; verdict(&nodes, &links, b"t", 4), (0, 0));
+        assert_eq!(rt; verdict(&nodes, &links, b"t", 4), Ok(()));
         nodes[4] = collection(2, 0, 1);
-        assert_eq!(rt; verdict(&nodes, &links, b"t", 5), (46, 0));
+        assert_eq!(rt; verdict(&nodes, &links, b"t", 5), Err((46, 0)));
         nodes[4] = collection(2, 0, 0);
-        assert_eq!(rt; verdict(&nodes, &links, b"t", 5), (0, 0));
+        assert_eq!(rt; verdict(&nodes, &links, b"t", 5), Ok(()));
     }
 
     #[test]
     fn text_in_all(rt: HostRuntime) {
         let text = [b't'; 4095];
-        let mut long = scalar();
-        long.value_length = 4095;
-        let nodes = [long; 17];
-        assert_eq!(rt; verdict(&nodes, &[], &text, 16), (0, 0));
-        assert_eq!(rt; verdict(&nodes, &[], &text, 17), (46, 0));
+        let nodes = [valued(0, 4095); 17];
+        assert_eq!(rt; verdict(&nodes, &[], &text, 16), Ok(()));
+        assert_eq!(rt; verdict(&nodes, &[], &text, 17), Err((46, 0)));
     }
 }
 
@@ -120,46 +127,48 @@ mod nodes {
 
     #[test]
     fn kinds_and_styles(rt: HostRuntime) {
-        assert_eq!(rt; alone(styled(1, 5), b"t"), (0, 0));
-        assert_eq!(rt; alone(styled(1, 6), b"t"), (42, 1));
-        assert_eq!(rt; alone(styled(2, 2), b"t"), (0, 0));
-        assert_eq!(rt; alone(styled(3, 3), b"t"), (42, 1));
-        assert_eq!(rt; alone(styled(4, 0), b"t"), (42, 1));
-        assert_eq!(rt; alone(<Node as Empty>::none(), b"t"), (42, 1));
+        assert_eq!(rt; alone(styled(1, 5), b"t"), Ok(()));
+        assert_eq!(rt; alone(styled(1, 6), b"t"), Err((42, 1)));
+        assert_eq!(rt; alone(styled(2, 2), b"t"), Ok(()));
+        assert_eq!(rt; alone(styled(3, 3), b"t"), Err((42, 1)));
+        assert_eq!(rt; alone(styled(4, 0), b"t"), Err((42, 1)));
+        assert_eq!(rt; alone(Node::default(), b"t"), Err((42, 1)));
     }
 
     #[test]
     fn tags(rt: HostRuntime) {
         let text = [b't'; 257];
-        assert_eq!(rt; alone(tagged(1, 256), &text), (0, 0));
-        assert_eq!(rt; alone(tagged(2, 256), &text), (43, 1));
-        assert_eq!(rt; alone(tagged(0, 257), &text), (43, 1));
-        assert_eq!(rt; alone(tagged(0, 0), &text), (43, 1));
-        assert_eq!(rt; alone(tagged(0, 1), b"!!"), (43, 1));
-        assert_eq!(rt; alone(tagged(0, 2), b"!!"), (0, 0));
-        assert_eq!(rt; alone(tagged(0, 2), b"!\0"), (43, 1));
+        assert_eq!(rt; alone(tagged(1, 256), &text), Ok(()));
+        assert_eq!(rt; alone(tagged(2, 256), &text), Err((43, 1)));
+        assert_eq!(rt; alone(tagged(0, 257), &text), Err((43, 1)));
+        assert_eq!(rt; alone(tagged(0, 0), &text), Err((43, 1)));
+        assert_eq!(rt; alone(tagged(0, 1), b"!!"), Err((43, 1)));
+        assert_eq!(rt; alone(tagged(0, 2), b"!!"), Ok(()));
+        assert_eq!(rt; alone(tagged(0, 2), b"!\0"), Err((43, 1)));
     }
 
     #[test]
     fn values(rt: HostRuntime) {
         let text = [b't'; 4097];
-        assert_eq!(rt; alone(valued(1, 4096), &text), (0, 0));
-        assert_eq!(rt; alone(valued(2, 4096), &text), (44, 1));
-        assert_eq!(rt; alone(valued(0, 4097), &text), (44, 1));
-        let mut node = collection(2, 0, 0);
-        node.value_start = 1;
-        assert_eq!(rt; alone(node, &text), (44, 1));
+        assert_eq!(rt; alone(valued(1, 4096), &text), Ok(()));
+        assert_eq!(rt; alone(valued(2, 4096), &text), Err((44, 1)));
+        assert_eq!(rt; alone(valued(0, 4097), &text), Err((44, 1)));
+        let node = Node {
+            value_start: 1,
+            ..collection(2, 0, 0)
+        };
+        assert_eq!(rt; alone(node, &text), Err((44, 1)));
     }
 
     #[test]
     fn links(rt: HostRuntime) {
-        assert_eq!(rt; linked(3, 2, &[2, 1]), (0, 0));
-        assert_eq!(rt; linked(3, 2, &[2]), (45, 1));
-        assert_eq!(rt; linked(3, 2, &[2, 3]), (45, 1));
-        assert_eq!(rt; linked(3, 2, &[0, 1]), (45, 1));
-        assert_eq!(rt; linked(3, 1, &[2, 1]), (45, 1));
-        assert_eq!(rt; linked(2, 1, &[2, 1]), (0, 0));
-        assert_eq!(rt; linked(1, 1, &[2, 1]), (45, 1));
+        assert_eq!(rt; linked(3, 2, &[2, 1]), Ok(()));
+        assert_eq!(rt; linked(3, 2, &[2]), Err((45, 1)));
+        assert_eq!(rt; linked(3, 2, &[2, 3]), Err((45, 1)));
+        assert_eq!(rt; linked(3, 2, &[0, 1]), Err((45, 1)));
+        assert_eq!(rt; linked(3, 1, &[2, 1]), Err((45, 1)));
+        assert_eq!(rt; linked(2, 1, &[2, 1]), Ok(()));
+        assert_eq!(rt; linked(1, 1, &[2, 1]), Err((45, 1)));
     }
 }
 
@@ -171,10 +180,7 @@ mod reads {
     // A sequence that holds a scalar twice, and itself.
     #[test]
     fn a_small_book(rt: HostRuntime) {
-        let mut item = scalar();
-        item.value_start = 1;
-        item.value_length = 2;
-        let nodes = [collection(2, 0, 3), item];
+        let nodes = [collection(2, 0, 3), valued(1, 2)];
         let handed = Handed {
             nodes: &nodes,
             links: &[2, 2, 1],

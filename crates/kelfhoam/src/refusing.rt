@@ -1,7 +1,7 @@
 // A refused load or dump in one line: number, place and cause.
 use crate::words::{dump_words, load_words, refusal_words};
 use composer::refusal::{refusal_mark, refusal_number};
-use document::{Refusal as StandRefusal, question_number};
+use document::Refusal as StandRefusal;
 use dumper::{Refused, Why, why_number};
 use loader::Refusal;
 use std::alloc::{AllocError, Global};
@@ -47,7 +47,7 @@ pub fn load_line(
 
 // The line for tables that a load gave and on which no Document stands.
 pub fn stand_line(heap: Global, refusal: StandRefusal) -> Result<String, AllocError> {
-    let number = question_number(refusal.question);
+    let number = refusal.question.number();
     let node = refusal.node;
     format!(in heap;
         "kelfhoam: refused {number} at node {node}: no Document stands on the loaded tables\n"

@@ -4,7 +4,6 @@ ghost use Rattle.document.specs.Empty.{zero_mark};
 ghost use Rattle.kelfhoam_c.specs.Told.{flag_of, load_number, first_mark, fault_in, place_in, no_load, loaded_told, refused_told, load_told, node_in, size_in, space_in, accepted_told, declined_told, called_told, no_document_told};
 
 use composer::{refusal_mark, refusal_number};
-use document::question_number;
 use dumper::{Refused, Why, why_number};
 use loader::{Loaded, Refusal};
 use model::Mark;
@@ -266,7 +265,7 @@ pub fn tell_no_document(refusal: document::Refusal) -> CallTold
     ensures { result ≡ no_document_told refusal }
 {
     CallTold {
-        refusal: question_number(refusal.question) as u64,
+        refusal: refusal.question.number() as u64,
         events: 0,
         node: refusal.node as u64,
         size: 0,

@@ -7,7 +7,8 @@ use Rattle.model.specs.declared.NodeKind.TheVariants.{Scalar, Sequence, Mapping}
 use Rattle.model.specs.declared.Mark.{Mark}
 use Rattle.model.specs.Events.{Ev, table, zero_free, allowed}
 use Rattle.document.specs.declared.node.Node.{Node}
-use Rattle.document.specs.Questions.{lies, every, kind_right, bang, tag_of, links_of, tag_right, value_right, names, links_right}
+use Rattle.std.specs.List.{list_all as every}
+use Rattle.document.specs.Questions.{lies, kind_right, bang, tag_of, links_of, tag_right, value_right, names, links_right}
 use Rattle.document.proofs.Every.{every_weaker}
 use Rattle.serial.specs.Serialize.{same_bytes, default_tag, start_kind}
 use Rattle.serial.specs.Compose.{resolved}

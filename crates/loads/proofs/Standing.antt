@@ -12,7 +12,8 @@ use Rattle.model.specs.declared.Mark.{Mark}
 use Rattle.model.specs.Events.{allowed, all_allowed}
 use Rattle.model.specs.Reading.{Marked, bare}
 use Rattle.document.specs.declared.node.Node.{Node}
-use Rattle.document.specs.Questions.{part, every, names, link_total, text_total}
+use Rattle.std.specs.List.{list_all as every}
+use Rattle.document.specs.Questions.{part, names, link_total, text_total}
 use Rattle.document.specs.Check.{handed, AllFit}
 use Rattle.document.specs.Books.{graph_of}
 use Rattle.document.proofs.Every.{every_push}

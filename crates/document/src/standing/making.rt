@@ -4,9 +4,9 @@ ghost use Rattle.document.specs.Check.{handed_of, Determined};
 ghost use Rattle.document.specs.Books.{Bare, Stood};
 
 use super::Document;
-use crate::check::check_all;
+use crate::check::cut::Cut;
 use crate::handed::Handed;
-use crate::limits::{MAX_LINKS, MAX_NODES, MAX_TEXT, space};
+use crate::limits::{MAX_LINKS, MAX_NODES, MAX_TEXT};
 use crate::refusal::{Question, Refusal};
 
 impl<'a> Document<'a> {
@@ -28,27 +28,32 @@ impl<'a> Document<'a> {
         ensures stood { Stood handed.entry result }
         ensures determined { Determined (handed_of handed.entry) }
     {
-        let nodes = handed.nodes;
-        let links = handed.links;
-        let text = handed.text;
-        if handed.count > space(nodes.len(), MAX_NODES) {
+        let Handed {
+            nodes,
+            links,
+            text,
+            count,
+            start_implicit,
+            end_implicit,
+        } = handed;
+        if count > nodes.len().min(MAX_NODES) {
             return Err(Refusal {
                 question: Question::Count,
                 node: 0,
             });
         }
-        let links_end = space(links.len(), MAX_LINKS);
-        let text_end = space(text.len(), MAX_TEXT);
-        let nodes = &nodes[..handed.count];
-        let links = &links[..links_end];
-        let text = &text[..text_end];
-        check_all(nodes, links, text)?;
+        let cut = Cut {
+            nodes: &nodes[..count],
+            links: &links[..links.len().min(MAX_LINKS)],
+            text: &text[..text.len().min(MAX_TEXT)],
+        };
+        cut.check()?;
         Ok(Document {
-            nodes,
-            links,
-            text,
-            start_implicit: handed.start_implicit,
-            end_implicit: handed.end_implicit,
+            nodes: cut.nodes,
+            links: cut.links,
+            text: cut.text,
+            start_implicit,
+            end_implicit,
         })
     }
 }

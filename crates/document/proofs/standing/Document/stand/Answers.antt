@@ -5,15 +5,15 @@ use Rattle.document.proofs.Determined.{determined}
 use Rattle.document.proofs.Handing.{take_space, later, stands}
 use Rattle.document.proofs.standing.Document.stand.Goals as goal
 
-pub returns-in_err-check_all : goal.returns-in_err-check_all
-returns-in_err-check_all c =
+pub returns-in_err-check : goal.returns-in_err-check
+returns-in_err-check c =
     let h = handed_of c.args.handed in
     let p = err_from_is_err_and c.from_residual.result c.from_residual.ensures.1 in
-    let e = c.in_err-check_all.field-0.0 in
+    let e = c.in_err-check.field-0.0 in
     let why =
-    later h e.question e.node (take h.count h.nodes) (take c.space-links_end.result h.links) (take c.space-text_end.result h.text)
-    refl (take_space c.space-links_end.result 16384 h.links c.space-links_end.ensures)
-    (take_space c.space-text_end.result 65536 h.text c.space-text_end.ensures) (omega arith) c.in_err-check_all.ensures
+    later h e.question e.node (take h.count h.nodes) (take c.min-2.result h.links) (take c.min-3.result h.text)
+    refl (take_space c.min-2.result 16384 h.links c.min-2.ensures)
+    (take_space c.min-3.result 65536 h.text c.min-3.ensures) (omega arith) c.in_err-check.ensures
     in
     record { stood = rw (p.1, p.2) why; determined = determined h }
 
@@ -22,7 +22,7 @@ returns c =
     let h = handed_of c.args.handed in
     record {
       stood =
-          stands h c.args.handed.start_implicit c.args.handed.end_implicit _ refl (take_space c.space-links_end.result 16384 h.links c.space-links_end.ensures)
-          (take_space c.space-text_end.result 65536 h.text c.space-text_end.ensures) refl refl (omega arith) c.in_ok-check_all.ensures;
+          stands h c.args.handed.start_implicit c.args.handed.end_implicit _ refl (take_space c.min-2.result 16384 h.links c.min-2.ensures)
+          (take_space c.min-3.result 65536 h.text c.min-3.ensures) refl refl (omega arith) c.in_ok-check.ensures;
       determined = determined h;
     }
