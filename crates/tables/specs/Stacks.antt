@@ -1,5 +1,7 @@
 -- What a stack over a lent table holds, and what each call does to it.
-use Rattle.std.specs.Prelude.{◌≡◌, ℕ, ◌+◌, ◌-◌, ◌<◌, ◌≤◌, Bool, true, false, List, [], ◌∷◌, ◌++◌, length, take, drop, replicate, slice_set}
+use Rattle.std.specs.Prelude.{◌≡◌, ℕ, ◌+◌, ◌-◌, ◌<◌, ◌≤◌, Bool, true, false, List, [], ◌∷◌, ◌++◌, length, take, drop, replicate, slice_set, Ok, Err, Result}
+use Rattle.tables.specs.declared.stack.Full.{Full}
+use Rattle.tables.specs.declared.stack.NoEntry.{NoEntry}
 use Rattle.std.specs.Borrow.{MutBor}
 use Rattle.tables.specs.declared.stack.Stack.{Stack}
 
@@ -33,7 +35,7 @@ pub record Made {X : Type 0} (items : MutBor (List X)) (made : Stack X) : Type 0
   pub past : beyond made ≡ items.now
 
 -- the stack was full, and nothing alters
-pub record Full {X : Type 0} (before after : Stack X) : Type 0 where
+pub record IsFull {X : Type 0} (before after : Stack X) : Type 0 where
   pub full : length (contents before) ≡ room_of before
   pub same : after ≡ before
 
@@ -44,9 +46,9 @@ pub record Topped {X : Type 0} (before : Stack X) (entry : X) (after : Stack X) 
   pub past : beyond after ≡ drop 1 (beyond before)
   pub over : SameTable before after
 
-abbrev pub Pushed : {X : Type 0} → Stack X → X → Bool → Stack X → Type 0
-Pushed before entry true after = Topped before entry after
-Pushed before entry false after = Full before after
+abbrev pub Pushed : {X : Type 0} → Stack X → X → Result (Unit {0}) Full → Stack X → Type 0
+Pushed before entry (Ok u) after = Topped before entry after
+Pushed before entry (Err e) after = IsFull before after
 
 -- the stack held nothing, and nothing alters
 pub record Bare {X : Type 0} (before : Stack X) (place : X) (after : Stack X) (filled : X) : Type 0 where
@@ -76,9 +78,9 @@ pub record Changed {X : Type 0} (before : Stack X) (i : ℕ) (entry : X) (after 
   pub past : beyond after ≡ beyond before
   pub over : SameTable before after
 
-abbrev pub Replaced : {X : Type 0} → Stack X → ℕ → X → Bool → Stack X → Type 0
-Replaced before i entry true after = Changed before i entry after
-Replaced before i entry false after = NoPlace before i after
+abbrev pub Replaced : {X : Type 0} → Stack X → ℕ → X → Result (Unit {0}) NoEntry → Stack X → Type 0
+Replaced before i entry (Ok u) after = Changed before i entry after
+Replaced before i entry (Err e) after = NoPlace before i after
 
 -- nothing is held, and every entry of the table is the empty one
 pub record Wiped {X : Type 0} (empty : X) (before after : Stack X) : Type 0 where
@@ -102,9 +104,9 @@ pub record NoRoom {X : Type 0} (before : Stack X) (entries : List X) (after : St
   pub too_many : room_of before < length (contents before) + length entries
   pub same : after ≡ before
 
-abbrev pub Extended : {X : Type 0} → Stack X → List X → Bool → Stack X → Type 0
-Extended before entries true after = Grown before entries after
-Extended before entries false after = NoRoom before entries after
+abbrev pub Extended : {X : Type 0} → Stack X → List X → Result (Unit {0}) Full → Stack X → Type 0
+Extended before entries (Ok u) after = Grown before entries after
+Extended before entries (Err e) after = NoRoom before entries after
 
 -- at most the first n entries are left; empty ones stand where the others were
 pub record Shortened {X : Type 0} (empty : X) (before : Stack X) (n : ℕ) (after : Stack X) : Type 0 where

@@ -1,7 +1,7 @@
 // The empty entry of a table, and clearing a table.
 ghost use Rattle.std.specs.Prelude.{◌≡◌, ℕ, length, replicate};
 
-// What can stand in a table: it names its empty entry.
+// What can stand in a table: it names its empty entry. A form this project keeps.
 pub trait Empty {
     ghost empty: { Self };
 
@@ -9,6 +9,7 @@ pub trait Empty {
         ensures { result ≡ empty };
 }
 
+// Three impls that differ only in the type, since a macro that would write them is refused: it may hold no ghost item yet.
 impl Empty for u8 {
     ghost empty = { 0 };
 
@@ -37,7 +38,5 @@ impl Empty for usize {
 pub fn clear<T: Empty + Copy>(table: &mut [T])
     ensures { table.new ≡ replicate (length table.old) T.Empty.empty }
 {
-    for entry in table.iter_mut() {
-        *entry = T::none();
-    }
+    table.fill_with(|| T::none());
 }

@@ -5,4 +5,4 @@ pub mod empty;
 pub mod stack;
 
 pub use empty::{Empty, clear};
-pub use stack::Stack;
+pub use stack::{Full, NoEntry, Stack};

@@ -1,29 +1,28 @@
 // A stack over a lent table. It says no rather than run past the table, and its entries past the top are never read.
 ghost use Rattle.std.specs.Prelude.{◌≡◌, ℕ, ◌+◌, ◌≤◌, length};
 ghost use Rattle.std.specs.List.{slice_get};
-ghost use Rattle.tables.specs.Growing.{Growing};
-ghost use Rattle.tables.specs.Stacks.{Made, Counted, Wiped, Pushed, Popped, Replaced, Extended, Shortened, contents, room_of};
 
 use crate::empty::{Empty, clear};
 
-// Puts several entries into a table, from a place on. The table is a parameter, so that the loop is compiled to a plain copy.
-fn put<T: Copy>(table: &mut [T], at: usize, entries: &[T])
-    requires { at + length entries.now ≤ length table.old }
-    ensures { Growing table.old table.new entries.now at (length entries.now) }
-{
-    for i in 0..entries.len() {
-        let place = at + i;
-        table[place] = entries[i];
-    }
-}
+// The stack has too little room for what should go on top.
+#[derive(Clone, Copy, PartialEq, Eq, Debug)]
+pub struct Full;
 
+// The stack holds no entry at that place.
+#[derive(Clone, Copy, PartialEq, Eq, Debug)]
+pub struct NoEntry;
+
+// A form this project keeps: one generic stack over a lent slice, which counts how much of it is held.
 #[derive(Drop)]
 pub struct Stack<'a, T> {
     items: &'a mut [T],
     count: usize,
+    ghost within: { count ≤ length items.now },
 }
 
 impl<'a, T: Empty + Copy> Stack<'a, T> {
+    ghost use Rattle.tables.specs.Stacks.{Made, Counted, Wiped, Pushed, Popped, Replaced, Extended, Shortened, contents, room_of};
+
     // An empty stack; the table stays as it is.
     pub fn new(items: &'a mut [T]) -> Stack<'a, T>
         ensures { Made items.entry result }
@@ -35,12 +34,7 @@ impl<'a, T: Empty + Copy> Stack<'a, T> {
     pub fn len(&self) -> usize
         ensures { Counted self.now result }
     {
-        let space = self.items.len();
-        if self.count < space {
-            self.count
-        } else {
-            space
-        }
+        self.count
     }
 
     // How many entries it can hold.
@@ -50,61 +44,47 @@ impl<'a, T: Empty + Copy> Stack<'a, T> {
         self.items.len()
     }
 
-    // Puts an entry on top, or says no: it is full.
-    pub fn push(&mut self, entry: T) -> bool
+    // Puts an entry on top, if there is room.
+    pub fn push(&mut self, entry: T) -> Result<(), Full>
         ensures { Pushed self.old entry result self.new }
     {
         let top = self.count;
-        if top >= self.items.len() {
-            return false;
+        if top == self.items.len() {
+            return Err(Full);
         }
         self.items[top] = entry;
         self.count = top + 1;
-        true
+        Ok(())
     }
 
     // Takes the top entry into `place` and puts the empty entry back, or says no: it is empty.
+    // A form this project keeps: it fills a lent place and answers yes or no.
     pub fn pop(&mut self, place: &mut T) -> bool
         ensures { Popped T.Empty.empty self.old place.old result self.new place.new }
     {
-        let held = self.len();
-        if held == 0 {
+        if self.count == 0 {
             return false;
         }
-        let top = held - 1;
+        let top = self.count - 1;
         *place = self.items[top];
-        self.items[top] = T::none();
         self.count = top;
+        self.items[top] = T::none();
         true
-    }
-
-    // The entries held, the top one last.
-    pub fn held(&self) -> &[T]
-        ensures { result.now ≡ contents self.now }
-    {
-        let count = self.len();
-        let items = &*self.items;
-        &items[0..count]
     }
 
     // The entry at a place from 0, counted from the bottom.
     pub fn get(&self, i: usize) -> Option<T>
         ensures { result ≡ slice_get (contents self.now) i }
     {
-        if i >= self.len() {
-            return None;
-        }
-        let items = &*self.items;
-        Some(items[i])
+        self.entries().get(i).copied()
     }
 
     // The entries that it holds, the top one last.
     pub fn entries(&self) -> &[T]
         ensures { result.now ≡ contents self.now }
     {
-        let held = self.len();
         let items = &*self.items;
-        &items[0..held]
+        &items[..self.count]
     }
 
     // The whole table.
@@ -114,40 +94,41 @@ impl<'a, T: Empty + Copy> Stack<'a, T> {
         &*self.items
     }
 
-    // Puts another entry at a place from 0, counted from the bottom, or says no: there is none.
-    pub fn replace(&mut self, i: usize, entry: T) -> bool
+    // Puts another entry at a place from 0, counted from the bottom, if one is there.
+    pub fn replace(&mut self, i: usize, entry: T) -> Result<(), NoEntry>
         ensures { Replaced self.old i entry result self.new }
     {
-        if i >= self.len() {
-            return false;
+        if i >= self.count {
+            return Err(NoEntry);
         }
         self.items[i] = entry;
-        true
+        Ok(())
     }
 
-    // Puts several entries on top, the last one last, or says no: there is too little room.
-    pub fn extend(&mut self, entries: &[T]) -> bool
+    // Puts several entries on top, the last one last, if there is room for all.
+    pub fn extend(&mut self, entries: &[T]) -> Result<(), Full>
         ensures { Extended self.old entries.now result self.new }
     {
-        let held = self.len();
+        let held = self.count;
         if entries.len() > self.items.len() - held {
-            return false;
+            return Err(Full);
         }
-        put(self.items, held, entries);
-        self.count = held + entries.len();
-        true
+        let top = held + entries.len();
+        let items = &mut *self.items;
+        items[held..top].copy_from_slice(entries);
+        self.count = top;
+        Ok(())
     }
 
     // Takes entries off the top until at most n are left.
     pub fn shorten(&mut self, n: usize)
         ensures { Shortened T.Empty.empty self.old n self.new }
     {
-        let held = self.len();
+        let held = self.count;
         if n < held {
-            for place in n..held {
-                self.items[place] = T::none();
-            }
             self.count = n;
+            let items = &mut *self.items;
+            clear(&mut items[n..held]);
         }
     }
 
@@ -155,7 +136,8 @@ impl<'a, T: Empty + Copy> Stack<'a, T> {
     pub fn wipe(&mut self)
         ensures { Wiped T.Empty.empty self.old self.new }
     {
-        clear(self.items);
+        let items = &mut *self.items;
+        clear(items);
         self.count = 0;
     }
 }

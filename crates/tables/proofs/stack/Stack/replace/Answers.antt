@@ -1,6 +1,6 @@
 use Rattle.std.proofs.Common.{refl, arith, length-set}
-use Rattle.std.proofs.lemmas.List.{drop-set-lt}
-use Rattle.tables.proofs.Tops.{take_set_in, below_count}
+use Rattle.std.proofs.lemmas.List.{drop-set-lt, length-take}
+use Rattle.std.proofs.Math.Seq.{take-set-lt}
 use Rattle.tables.proofs.stack.Stack.replace.Goals as goal
 
 pub returns : goal.returns
@@ -9,10 +9,10 @@ returns g c =
     let xs = c.args.self.now.items.now in
     let i = c.args.i in
     let y = c.args.entry in
-    let held = c.len.ensures.held in
+    let held = length-take n xs in
     record {
       there = omega arith;
-      holds = take_set_in n xs i y;
-      past = drop-set-lt n xs i y (below_count n xs i (omega arith));
-      over = record { table = refl {a = c.args.self.now.items.ghost_name}; room = length-set xs i y };
+      holds = take-set-lt n xs i y (omega arith);
+      past = drop-set-lt n xs i y (omega arith);
+      over = record { table = refl; room = length-set xs i y };
     }
