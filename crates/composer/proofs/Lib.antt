@@ -1,5 +1,4 @@
 pub mod Doing
 pub mod Finding
 pub mod Opening
-pub mod Keeping
 pub mod Tagging

@@ -1,20 +1,18 @@
 -- What the tables of the code hold, as the plain lists of the definition, and what stays true of them while a document is composed.
-use Rattle.std.specs.Prelude.{◌≡◌, ℕ, ◌+◌, ◌≤◌, min, List, [], ◌∷◌, length, Ok, Err, Result}
+use Rattle.std.specs.Prelude.{◌≡◌, ℕ, List, [], Ok, Err, Result}
 use Rattle.std.specs.Borrow.{GName, MutBor}
 use Rattle.tables.specs.declared.stack.Stack.{Stack}
 use Rattle.tables.specs.Stacks.{contents, room_of, Clean, Made, SameTable}
 use Rattle.document.specs.declared.node.Node.{Node}
 use Rattle.document.specs.Empty.{empty_node}
 use Rattle.composer.specs.declared.anchor.Anchor.{Anchor}
-use Rattle.composer.specs.declared.frames.Frame.{Frame}
 use Rattle.composer.specs.declared.stacks.Tables.{Tables}
 use Rattle.composer.specs.declared.refusal.Refusal.{Refusal}
 use Rattle.composer.specs.Names.{empty_anchor}
 use Rattle.composer.specs.Opens.{opens}
-use Rattle.yaml.specs.declared.event.Event.{Event}
+use Rattle.composer.specs.declared.placed.Placed.{Placed}
 use Rattle.yaml.specs.Shapes.{ev_of}
 use Rattle.model.specs.declared.Mark.{Mark}
-use Rattle.model.specs.Events.{Ev}
 use Rattle.model.specs.Graph.{numbered}
 use Rattle.composer.specs.Steps.{linked_at}
 use Rattle.model.specs.Reading.{Marked}
@@ -64,64 +62,44 @@ pub record Standing (nodes : MutBor (List Node)) (links : MutBor (List ℕ)) (te
   pub waiting_made : Made waiting t.waiting
   pub none_open : opens t.frames ≡ []
 
--- a table is clean past what it holds, and so much of it is used
-pub record Table {X : Type 0} (empty : X) (limit space : ℕ) (s : Stack X) : Type 0 where
-  pub spaced : space ≡ min (room_of s) limit
-  pub clean : Clean empty s
-
--- the children of all open collections
-abbrev pub children_of : List Frame → ℕ
-children_of [] = 0
-children_of (f ∷ fs) = f.children + children_of fs
-
--- Each table is clean; nodes and text lie within their space, links within theirs even once the waiting children are placed; the children of the open collections are those that wait.
-pub record Sound (sp : Spaces) (t : Tables) : Type 0 where
-  pub nodes : Table empty_node 4096 sp.nodes t.nodes
-  pub links : Table 0 16384 sp.links t.links
-  pub text : Table 0 65536 sp.text t.text
-  pub anchors : Table empty_anchor 4096 sp.anchors t.anchors
-  pub waiting : Table 0 16384 sp.waiting t.waiting
-  pub few_nodes : length (contents t.nodes) ≤ sp.nodes
-  pub few_bytes : length (contents t.text) ≤ sp.text
-  pub few_links : length (contents t.links) + length (contents t.waiting) ≤ sp.links
-  pub all_wait : children_of (opens t.frames) ≡ length (contents t.waiting)
+-- every table is clean past what it holds
+pub record AllClean (t : Tables) : Type 0 where
+  pub nodes : Clean empty_node t.nodes
+  pub links : Clean 0 t.links
+  pub text : Clean 0 t.text
+  pub anchors : Clean empty_anchor t.anchors
+  pub waiting : Clean 0 t.waiting
 
 -- every entry of every table is empty
 pub record Emptied (before after : Tables) : Type 0 where
   pub state : state_of after ≡ blank
   pub base : base_of after ≡ base_of before
-  pub sound : Sound (spaces_of before) after
+  pub clean : AllClean after
 
 -- only the document itself is left: anchors and waiting children are gone, and nothing is open
 pub record Forgot (before after : Tables) : Type 0 where
   pub state : state_of after ≡ record { nodes = contents before.nodes; links = contents before.links; text = contents before.text; anchors = []; waiting = []; frames = [] }
   pub base : base_of after ≡ base_of before
-  pub sound : (sp : Spaces) → Sound sp before → Sound sp after
+  pub clean : AllClean before → AllClean after
 
 -- what was told to happen did
-pub record Done (told : Result St Refusal) (sp : Spaces) (before after : Tables) : Type 0 where
+pub record Done (told : Result St Refusal) (before after : Tables) : Type 0 where
   pub state : told ≡ Ok (state_of after)
   pub base : base_of after ≡ base_of before
-  pub sound : Sound sp after
+  pub clean : AllClean before → AllClean after
 
 -- it was refused as told; what the tables hold is not said
 pub record Denied (told : Result St Refusal) (e : Refusal) (before after : Tables) : Type 0 where
   pub why : told ≡ Err e
   pub base : base_of after ≡ base_of before
 
-abbrev pub Does : Result St Refusal → Spaces → Tables → Result (Unit {0}) Refusal → Tables → Type 0
-Does told sp before (Ok u) after = Done told sp before after
-Does told sp before (Err e) after = Denied told e before after
+abbrev pub Does : Result St Refusal → Tables → Result (Unit {0}) Refusal → Tables → Type 0
+Does told before (Ok u) after = Done told before after
+Does told before (Err e) after = Denied told e before after
 
 -- the event of the code's records
-abbrev pub marked : Event → Mark → Mark → Marked
-marked e start end = record { event = ev_of e; start = start; end = end }
-
--- its texts are no longer than those of an allowed event
-pub record Short (e : Ev) : Type 0 where
-  pub anchor : length e.anchor ≤ 64
-  pub tag : length e.tag ≤ 256
-  pub value : length e.value ≤ 4096
+abbrev pub marked : Placed → Marked
+marked p = record { event = ev_of p.event; start = p.start; end = p.end }
 
 -- the node of a number got its links and its end, if there is one
 pub record Relinked (before : Stack Node) (number first count : ℕ) (end : Mark) (after : Stack Node) : Type 0 where

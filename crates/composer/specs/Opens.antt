@@ -1,5 +1,6 @@
 -- The open collections, innermost first.
-use Rattle.std.specs.Prelude.{◌≡◌, ℕ, ◌<◌, ◌≤◌, Bool, true, false, List, [], ◌∷◌, reverse, length, take, Some, None, Option}
+use Rattle.std.specs.Prelude.{◌≡◌, ℕ, ◌+◌, ◌<◌, ◌≤◌, List, [], ◌∷◌, reverse, length, take, Some, None, Ok, Err, Option, Result}
+use Rattle.tables.specs.declared.stack.Full.{Full}
 use Rattle.composer.specs.declared.frames.Frame.{Frame}
 use Rattle.composer.specs.declared.frames.Frames.{Frames}
 use Rattle.composer.specs.Steps.{one_more}
@@ -37,6 +38,11 @@ pub record NoneOpened (before after : Frames) : Type 0 where
   pub many : 256 ≤ length (opens before)
   pub same : after ≡ before
 
-abbrev pub Opened : Frames → Frame → Bool → Frames → Type 0
-Opened before f true after = OneOpened before f after
-Opened before f false after = NoneOpened before after
+abbrev pub Opened : Frames → Frame → Result (Unit {0}) Full → Frames → Type 0
+Opened before f (Ok u) after = OneOpened before f after
+Opened before f (Err e) after = NoneOpened before after
+
+-- the children of all open collections
+abbrev pub children_of : List Frame → ℕ
+children_of [] = 0
+children_of (f ∷ fs) = f.children + children_of fs

@@ -1,4 +1,6 @@
 // The open collections, at most 256 of them.
+ghost use Rattle.std.specs.Prelude.{◌≤◌};
+
 mod opens;
 
 // An open collection: its node's number, how many children it has so far, and whether it is a mapping.
@@ -10,8 +12,10 @@ pub struct Frame {
 }
 
 // The outermost stands first; those from `count` on are not open.
+// A form this project keeps: a table of a fixed size in a plain inner struct, since a library uses no heap.
 #[derive(Drop)]
 pub struct Frames {
     all: [Frame; 256],
     count: usize,
+    ghost few: { count ≤ 256 },
 }

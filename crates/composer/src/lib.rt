@@ -4,10 +4,12 @@
 pub mod anchor;
 pub mod frames;
 pub mod names;
+pub mod placed;
 pub mod refusal;
 pub mod stacks;
 pub mod tags;
 
 pub use anchor::Anchor;
-pub use refusal::{Refusal, refusal_mark, refusal_number};
+pub use placed::Placed;
+pub use refusal::Refusal;
 pub use stacks::{Spaces, Tables};

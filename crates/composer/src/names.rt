@@ -12,9 +12,7 @@ pub fn anchor_entry(name: &[u8], node: u32) -> Anchor
 {
     let mut bytes = [0; 64];
     let size = name.len();
-    for i in 0..size {
-        bytes[i] = name[i];
-    }
+    bytes[..size].copy_from_slice(name);
     Anchor {
         bytes,
         size: size as u32,
@@ -23,6 +21,7 @@ pub fn anchor_entry(name: &[u8], node: u32) -> Anchor
 }
 
 // The node of the first anchor with that name.
+// A form this project keeps: nested loops over anchors and the bytes of their names, left by a label.
 pub fn find(anchors: &[Anchor], name: &[u8]) -> Option<u32>
     ensures { result ≡ found anchors.now name.now }
 {

@@ -3,9 +3,11 @@ ghost use Rattle.std.specs.Prelude.{◌≡◌};
 ghost use Rattle.composer.specs.Refusals.{refusal_number, refusal_mark};
 
 use model::{Fault, Mark};
+use std::error::Error;
+use std::fmt;
 
 // One variant a question, in the order in which they are asked; `at` is where the event begins.
-#[derive(Clone, Copy)]
+#[derive(Clone, Copy, PartialEq, Eq, Debug)]
 pub enum Refusal {
     // 20: was every earlier load accepted?
     EarlierRefused,
@@ -31,42 +33,75 @@ pub enum Refusal {
     TooDeep { at: Mark },
 }
 
-// The number of a refusal's question.
-pub fn refusal_number(refusal: Refusal) -> u8
-    ensures { result ≡ refusal_number refusal }
-{
-    match refusal {
-        Refusal::EarlierRefused => 20,
-        Refusal::SourceFault(_) => 21,
-        Refusal::NoEvent => 22,
-        Refusal::NotInTurn { at: _ } => 23,
-        Refusal::UnknownAlias { at: _ } => 24,
-        Refusal::NodesFull { at: _ } => 25,
-        Refusal::TextFull { at: _ } => 26,
-        Refusal::AnchorAgain { at: _, first: _ } => 27,
-        Refusal::AnchorsFull { at: _ } => 28,
-        Refusal::ChildrenFull { at: _ } => 29,
-        Refusal::TooDeep { at: _ } => 30,
+impl Refusal {
+    // The number of its question.
+    pub fn number(self) -> u8
+        ensures { result ≡ refusal_number self }
+    {
+        match self {
+            Refusal::EarlierRefused => 20,
+            Refusal::SourceFault(_) => 21,
+            Refusal::NoEvent => 22,
+            Refusal::NotInTurn { .. } => 23,
+            Refusal::UnknownAlias { .. } => 24,
+            Refusal::NodesFull { .. } => 25,
+            Refusal::TextFull { .. } => 26,
+            Refusal::AnchorAgain { .. } => 27,
+            Refusal::AnchorsFull { .. } => 28,
+            Refusal::ChildrenFull { .. } => 29,
+            Refusal::TooDeep { .. } => 30,
+        }
+    }
+
+    // Where the refused event begins; all zero where no event was refused.
+    pub fn mark(self) -> Mark
+        ensures { result ≡ refusal_mark self }
+    {
+        match self {
+            Refusal::EarlierRefused | Refusal::SourceFault(_) | Refusal::NoEvent => {
+                Mark::default()
+            }
+            Refusal::NotInTurn { at }
+            | Refusal::UnknownAlias { at }
+            | Refusal::NodesFull { at }
+            | Refusal::TextFull { at }
+            | Refusal::AnchorAgain { at, .. }
+            | Refusal::AnchorsFull { at }
+            | Refusal::ChildrenFull { at }
+            | Refusal::TooDeep { at } => at,
+        }
     }
 }
 
-// Where the refused event begins; all zero where no event was refused.
-pub fn refusal_mark(refusal: Refusal) -> Mark
-    ensures { result ≡ refusal_mark refusal }
-{
-    match refusal {
-        Refusal::EarlierRefused | Refusal::SourceFault(_) | Refusal::NoEvent => Mark {
-            index: 0,
-            line: 0,
-            column: 0,
-        },
-        Refusal::NotInTurn { at } => at,
-        Refusal::UnknownAlias { at } => at,
-        Refusal::NodesFull { at } => at,
-        Refusal::TextFull { at } => at,
-        Refusal::AnchorAgain { at, first: _ } => at,
-        Refusal::AnchorsFull { at } => at,
-        Refusal::ChildrenFull { at } => at,
-        Refusal::TooDeep { at } => at,
+// The refusal in words.
+impl fmt::Display for Refusal {
+    fn fmt<W: fmt::Write>(&self, f: &mut fmt::Formatter<W>) -> fmt::Result {
+        match self {
+            Refusal::EarlierRefused => f.write_str("an earlier document was refused"),
+            Refusal::SourceFault(fault) => fault.cause.fmt(f),
+            Refusal::NoEvent => f.write_str("the events end within the stream"),
+            Refusal::NotInTurn { .. } => f.write_str("the event is not in turn"),
+            Refusal::UnknownAlias { .. } => f.write_str(
+                "the alias names no anchor of this document",
+            ),
+            Refusal::NodesFull { .. } => f.write_str(
+                "the document has more nodes than there is space for",
+            ),
+            Refusal::TextFull { .. } => f.write_str(
+                "the document has more text than there is space for",
+            ),
+            Refusal::AnchorAgain { .. } => f.write_str(
+                "the anchor is given twice in this document",
+            ),
+            Refusal::AnchorsFull { .. } => f.write_str(
+                "the document has more anchors than there is space for",
+            ),
+            Refusal::ChildrenFull { .. } => f.write_str(
+                "the document has more links than there is space for",
+            ),
+            Refusal::TooDeep { .. } => f.write_str("more than 256 collections are open"),
+        }
     }
 }
+
+impl Error for Refusal {}

@@ -21,10 +21,7 @@ pub fn default_tag(kind: NodeKind) -> &'static [u8]
 fn bare(tag: &[u8]) -> bool
     ensures { result ≡ bare_tag tag.now }
 {
-    match tag {
-        [] | [b'!'] => true,
-        _ => false,
-    }
+    matches!(tag, [] | [b'!'])
 }
 
 // The tag of a node: an absent one, or `!` alone, is its kind's default.

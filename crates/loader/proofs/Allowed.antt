@@ -2,13 +2,11 @@
 use Rattle.std.proofs.Common.{◌≡◌, ◌≤◌, true, ◌&&◌, leb, [], length, sym, ap, ◌∙◌, arith}
 use Rattle.std.proofs.lemmas.List.{nil_from_length}
 use Rattle.std.proofs.lemmas.Bool.{and_parts, leb-true}
-use Rattle.model.specs.declared.EventKind.{EventKind}
-use Rattle.model.specs.declared.EventKind.TheVariants.{StreamStart, StreamEnd, DocumentStart, DocumentEnd, Alias, Scalar, SequenceStart, SequenceEnd, MappingStart, MappingEnd}
+use Rattle.model.specs.declared.EventKind.TheVariants.{DocumentStart}
 use Rattle.model.specs.Events.{Ev, Row, table, within, zero_free, allowed}
 use Rattle.model.specs.Reading.{Marked}
 use Rattle.yaml.specs.declared.event.Head.{Head}
 use Rattle.yaml.specs.Shapes.{head_of}
-use Rattle.composer.specs.Holding.{Short}
 use Rattle.loader.specs.Loads.{start_marked}
 
 -- the texts are within the row of the event's kind
@@ -30,31 +28,6 @@ fits_row e a =
     let p₄ = and_parts (leb n r.most_anchor) (leb t r.most_tag && leb v r.most_value) p₃ in
     let p₅ = and_parts (leb t r.most_tag) (leb v r.most_value) p₄.1 in
     record { anchor = leb-true n r.most_anchor p₄.0; tag = leb-true t r.most_tag p₅.0; value = leb-true v r.most_value p₅.1 }
-
-record Few (r : Row) : Type 0 where
-  pub anchor : r.most_anchor ≤ 64
-  pub tag : r.most_tag ≤ 256
-  pub value : r.most_value ≤ 4096
-
-few : (k : EventKind) → Few (table k)
-few StreamStart = record { anchor = omega arith; tag = omega arith; value = omega arith }
-few StreamEnd = record { anchor = omega arith; tag = omega arith; value = omega arith }
-few DocumentStart = record { anchor = omega arith; tag = omega arith; value = omega arith }
-few DocumentEnd = record { anchor = omega arith; tag = omega arith; value = omega arith }
-few Alias = record { anchor = omega arith; tag = omega arith; value = omega arith }
-few Scalar = record { anchor = omega arith; tag = omega arith; value = omega arith }
-few SequenceStart = record { anchor = omega arith; tag = omega arith; value = omega arith }
-few SequenceEnd = record { anchor = omega arith; tag = omega arith; value = omega arith }
-few MappingStart = record { anchor = omega arith; tag = omega arith; value = omega arith }
-few MappingEnd = record { anchor = omega arith; tag = omega arith; value = omega arith }
-
-pub allowed_short : (e : Ev) → allowed e ≡ true → Short e
-allowed_short e a =
-    let f = fits_row e a in
-    let m = few e.kind in
-    let fa = f.anchor in let ft = f.tag in let fv = f.value in
-    let ma = m.anchor in let mt = m.tag in let mv = m.value in
-    record { anchor = omega arith; tag = omega arith; value = omega arith }
 
 -- the start of a document is told whole by its head
 pub start_told : (m : Marked) (h : Head) → h ≡ head_of m → allowed m.event ≡ true → m.event.kind ≡ DocumentStart → m ≡ start_marked h

@@ -9,9 +9,9 @@ use Rattle.yaml.specs.declared.event.Head.{Head}
 use Rattle.yaml.specs.Flow.{Flow, Came}
 use Rattle.composer.specs.declared.stacks.Tables.{Tables}
 use Rattle.composer.specs.declared.refusal.Refusal.{Refusal}
-use Rattle.composer.specs.State.{St, Spaces, blank}
+use Rattle.composer.specs.State.{St, Spaces, spaces_for, blank}
 use Rattle.composer.specs.Steps.{taking}
-use Rattle.composer.specs.Holding.{state_of, base_of, Sound, Done, Denied}
+use Rattle.composer.specs.Holding.{state_of, base_of, spaces_of, Base, AllClean, Done, Denied}
 use Rattle.convert.proofs.Going.{latest_is}
 use Rattle.loader.specs.declared.answer.Loaded.{Loaded}
 use Rattle.loader.specs.declared.answer.Phase.TheVariants.{Between}
@@ -50,45 +50,46 @@ pub latest_marked_lem : (f f' : Flow) (h : Head) (c : HeadCame f h f') → lates
 latest_marked_lem f f' h c = λ i. record { event = latest_is f' c.one c.came.latest i; start = (c.told i).start; end = (c.told i).end }
 
 -- at each turn
-pub record Going (sp : Spaces) (start : Marked) (f₀ : Flow) (t₀ : Tables) (f : Flow) (t : Tables) : Type 0 where
-  pub same : running_on sp start f (state_of t) ≡ running_on sp start f₀ (state_of t₀)
+pub record Going (start : Marked) (f₀ : Flow) (t₀ : Tables) (f : Flow) (t : Tables) : Type 0 where
+  pub same : running_on (spaces_of t₀) start f (state_of t) ≡ running_on (spaces_of t₀) start f₀ (state_of t₀)
   pub base : base_of t ≡ base_of t₀
-  pub sound : Sound sp t
+  pub clean : AllClean t₀ → AllClean t
 
-module _ (sp : Spaces) (start : Marked) (f₀ : Flow) (t₀ : Tables) (f : Flow) (t : Tables) (going : Going sp start f₀ t₀ f t) (f' : Flow) where
-  pub going_none : (e : Refusal) → NoneCame f e f' → WithRefusal (running_on sp start f₀ (state_of t₀)) t₀ e t f'
-  going_none e n = record { told = sym going.same ∙ running_none sp start f f' e (state_of t) n; base = going.base }
+module _ (start : Marked) (f₀ : Flow) (t₀ : Tables) (f : Flow) (t : Tables) (going : Going start f₀ t₀ f t) (f' : Flow) where
+  pub going_none : (e : Refusal) → NoneCame f e f' → WithRefusal (running_on (spaces_of t₀) start f₀ (state_of t₀)) t₀ e t f'
+  going_none e n = record { told = sym going.same ∙ running_none (spaces_of t₀) start f f' e (state_of t) n; base = going.base }
 
   module _ (h : Head) (c : HeadCame f h f') where
-    onward : running_on sp start f₀ (state_of t₀) ≡ stepped (taking sp (latest_marked f' h) (state_of t)) start c.one f' (λ s. running_on sp start f' s)
-    onward = sym going.same ∙ running_came sp start f f' c.one (state_of t) c.came
-        ∙ ap (λ m. stepped (taking sp m (state_of t)) start c.one f' (λ s. running_on sp start f' s)) (sym (latest_marked_lem f f' h c))
+    onward : running_on (spaces_of t₀) start f₀ (state_of t₀) ≡ stepped (taking (spaces_of t) (latest_marked f' h) (state_of t)) start c.one f' (λ s. running_on (spaces_of t₀) start f' s)
+    onward = sym going.same ∙ running_came (spaces_of t₀) start f f' c.one (state_of t) c.came
+        ∙ ap (λ m. stepped (taking (spaces_of t₀) m (state_of t)) start c.one f' (λ s. running_on (spaces_of t₀) start f' s)) (sym (latest_marked_lem f f' h c))
+        ∙ ap (λ (b : Base). stepped (taking (spaces_for b.lengths) (latest_marked f' h) (state_of t)) start c.one f' (λ s. running_on (spaces_of t₀) start f' s)) (sym going.base)
 
-    pub going_refused : (e : Refusal) (t' : Tables) → Denied (taking sp (latest_marked f' h) (state_of t)) e t t' → WithRefusal (running_on sp start f₀ (state_of t₀)) t₀ e t' f'
+    pub going_refused : (e : Refusal) (t' : Tables) → Denied (taking (spaces_of t) (latest_marked f' h) (state_of t)) e t t' → WithRefusal (running_on (spaces_of t₀) start f₀ (state_of t₀)) t₀ e t' f'
     going_refused e t' d = record {
-      told = onward ∙ ap (λ r. stepped r start c.one f' (λ s. running_on sp start f' s)) d.why;
+      told = onward ∙ ap (λ r. stepped r start c.one f' (λ s. running_on (spaces_of t₀) start f' s)) d.why;
       base = d.base ∙ going.base;
     }
 
     kind_told : is_document_end h.kind ≡ is_document_end c.one.event.kind
     kind_told = ap (λ x. is_document_end x.kind) c.told
 
-    pub going_done : (t' : Tables) → Done (taking sp (latest_marked f' h) (state_of t)) sp t t' → is_document_end h.kind ≡ true
-        → (l : Loaded) → l ≡ counted start c.one (state_of t') → WithDocument (running_on sp start f₀ (state_of t₀)) sp t₀ l t' f'
+    pub going_done : (t' : Tables) → Done (taking (spaces_of t) (latest_marked f' h) (state_of t)) t t' → is_document_end h.kind ≡ true
+        → (l : Loaded) → l ≡ counted start c.one (state_of t') → WithDocument (running_on (spaces_of t₀) start f₀ (state_of t₀)) t₀ l t' f'
     going_done t' d end l is = record {
-      told = onward ∙ ap (λ r. stepped r start c.one f' (λ s. running_on sp start f' s)) d.state
-          ∙ cond-true _ (complete start c.one (state_of t') f') (running_on sp start f' (state_of t')) (sym kind_told ∙ end)
+      told = onward ∙ ap (λ r. stepped r start c.one f' (λ s. running_on (spaces_of t₀) start f' s)) d.state
+          ∙ cond-true _ (complete start c.one (state_of t') f') (running_on (spaces_of t₀) start f' (state_of t')) (sym kind_told ∙ end)
           ∙ ap (λ x. record { answer = Ok (Some x); holds = kept (state_of t'); phase = Between; flow = f' }) (sym is);
       base = d.base ∙ going.base;
-      sound = d.sound;
+      clean = λ k. d.clean (going.clean k);
     }
 
-    pub going_on : (t' : Tables) → Done (taking sp (latest_marked f' h) (state_of t)) sp t t' → is_document_end h.kind ≡ false → Going sp start f₀ t₀ f' t'
+    pub going_on : (t' : Tables) → Done (taking (spaces_of t) (latest_marked f' h) (state_of t)) t t' → is_document_end h.kind ≡ false → Going start f₀ t₀ f' t'
     going_on t' d more = record {
-      same = sym (onward ∙ ap (λ r. stepped r start c.one f' (λ s. running_on sp start f' s)) d.state
-          ∙ cond-false _ (complete start c.one (state_of t') f') (running_on sp start f' (state_of t')) (sym kind_told ∙ more));
+      same = sym (onward ∙ ap (λ r. stepped r start c.one f' (λ s. running_on (spaces_of t₀) start f' s)) d.state
+          ∙ cond-false _ (complete start c.one (state_of t') f') (running_on (spaces_of t₀) start f' (state_of t')) (sym kind_told ∙ more));
       base = d.base ∙ going.base;
-      sound = d.sound;
+      clean = λ k. d.clean (going.clean k);
     }
 
 -- a document begins

@@ -11,7 +11,7 @@ use Rattle.composer.specs.declared.refusal.Refusal.{Refusal}
 use Rattle.composer.specs.declared.refusal.Refusal.TheVariants.{EarlierRefused}
 use Rattle.composer.specs.Names.{empty_anchor}
 use Rattle.composer.specs.State.{St, Spaces}
-use Rattle.composer.specs.Holding.{state_of, lengths_of, base_of, Sound}
+use Rattle.composer.specs.Holding.{state_of, lengths_of, base_of, AllClean}
 use Rattle.convert.specs.Copies.{latest_event}
 use Rattle.loader.specs.declared.answer.Loaded.{Loaded}
 use Rattle.loader.specs.declared.answer.Phase.{Phase}
@@ -59,10 +59,10 @@ loading_on sp Ended f = stream_ended f
 loading_on sp Spoilt f = refused EarlierRefused f
 
 -- the outcome is a document, which the tables hold
-pub record WithDocument (o : Outcome) (sp : Spaces) (before : Tables) (l : Loaded) (after : Tables) (f : Flow) : Type 0 where
+pub record WithDocument (o : Outcome) (before : Tables) (l : Loaded) (after : Tables) (f : Flow) : Type 0 where
   pub told : o ≡ record { answer = Ok (Some l); holds = kept (state_of after); phase = Between; flow = f }
   pub base : base_of after ≡ base_of before
-  pub sound : Sound sp after
+  pub clean : AllClean before → AllClean after
 
 -- it is the stream's end, and the tables are as they were
 pub record AtEnd (o : Outcome) (before after : Tables) (f : Flow) : Type 0 where
@@ -75,15 +75,15 @@ pub record WithRefusal (o : Outcome) (before : Tables) (e : Refusal) (after : Ta
   pub base : base_of after ≡ base_of before
 
 -- what comes of the events within a document
-abbrev pub Runs : Outcome → Spaces → Tables → Result Loaded Refusal → Tables → Flow → Type 0
-Runs o sp before (Ok l) after f = WithDocument o sp before l after f
-Runs o sp before (Err e) after f = WithRefusal o before e after f
+abbrev pub Runs : Outcome → Tables → Result Loaded Refusal → Tables → Flow → Type 0
+Runs o before (Ok l) after f = WithDocument o before l after f
+Runs o before (Err e) after f = WithRefusal o before e after f
 
 -- what comes of a load
-abbrev pub Ends : Outcome → Spaces → Tables → Answer → Tables → Flow → Type 0
-Ends o sp before (Ok (Some l)) after f = WithDocument o sp before l after f
-Ends o sp before (Ok None) after f = AtEnd o before after f
-Ends o sp before (Err e) after f = WithRefusal o before e after f
+abbrev pub Ends : Outcome → Tables → Answer → Tables → Flow → Type 0
+Ends o before (Ok (Some l)) after f = WithDocument o before l after f
+Ends o before (Ok None) after f = AtEnd o before after f
+Ends o before (Err e) after f = WithRefusal o before e after f
 
 -- One load: the answer, every entry of the five tables, the loader's phase and what is left of the source are those of the outcome; the tables are the same ones.
 pub record ComesTo (o : Outcome) (before : Tables) (answer : Answer) (phase : Phase) (f : Flow) (after : Tables) : Type 0 where

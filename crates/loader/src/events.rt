@@ -4,10 +4,10 @@ ghost use Rattle.model.specs.Events.{allowed};
 ghost use Rattle.convert.specs.Copies.{Latest, latest_event};
 ghost use Rattle.convert.specs.Handing.{Heads};
 ghost use Rattle.composer.specs.Steps.{taking};
-ghost use Rattle.composer.specs.Holding.{Sound, Does, state_of};
+ghost use Rattle.composer.specs.Holding.{Does, state_of, spaces_of};
 ghost use Rattle.loader.specs.Loads.{Next, latest_marked};
 
-use composer::{Refusal, Spaces, Tables};
+use composer::{Placed, Refusal, Tables};
 use convert::copy::copy_text;
 use yaml::{Event, Head, Source, Text};
 
@@ -26,7 +26,6 @@ pub fn take_event<S: Source>(
     anchor: &mut [u8],
     tag: &mut [u8],
     value: &mut [u8],
-    spaces: Spaces,
     tables: &mut Tables<'_>,
 ) -> Result<(), Refusal>
     requires latest { Latest (S.Source.flow source.now) }
@@ -35,8 +34,7 @@ pub fn take_event<S: Source>(
     requires anchor { 64 ≤ length anchor.old }
     requires tag { 256 ≤ length tag.old }
     requires value { 4096 ≤ length value.old }
-    requires sound { Sound spaces tables.old }
-    ensures { Does (taking spaces (latest_marked (S.Source.flow source.now) head.now) (state_of tables.old)) spaces tables.old result tables.new }
+    ensures { Does (taking (spaces_of tables.old) (latest_marked (S.Source.flow source.now) head.now) (state_of tables.old)) tables.old result tables.new }
 {
     copy_text(source, Text::Anchor, head.anchor, anchor);
     copy_text(source, Text::Tag, head.tag, tag);
@@ -49,5 +47,10 @@ pub fn take_event<S: Source>(
         tag: &tag[0..head.tag],
         value: &value[0..head.value],
     };
-    tables.take(spaces, &event, head.start, head.end)
+    let placed = Placed {
+        event,
+        start: head.start,
+        end: head.end,
+    };
+    tables.take(&placed)
 }

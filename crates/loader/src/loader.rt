@@ -30,8 +30,7 @@ impl<S: Source> Loader<S> {
         ensures { Loads self.old.phase (S.Source.flow self.old.source) tables.old result self.new.phase (S.Source.flow self.new.source) tables.new }
     {
         tables.wipe();
-        let spaces = tables.spaces();
-        let answer = load_from(self.phase, &mut self.source, spaces, tables);
+        let answer = load_from(self.phase, &mut self.source, tables);
         match answer {
             Ok(Some(_)) => {
                 tables.forget();

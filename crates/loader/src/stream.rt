@@ -1,13 +1,13 @@
 // A stream: its start, its documents, its end.
 ghost use Rattle.std.specs.Prelude.{◌≡◌, ◌≤◌, length};
 ghost use Rattle.composer.specs.State.{blank};
-ghost use Rattle.composer.specs.Holding.{Sound, state_of};
+ghost use Rattle.composer.specs.Holding.{state_of, spaces_of};
 ghost use Rattle.loader.specs.Loading.{is_document_end};
 ghost use Rattle.loader.specs.Loads.{Ends, Runs, running_on, between_on, fresh_on, loading_on, start_marked};
 
 use crate::answer::{Loaded, Phase};
 use crate::events::{next_head, take_event};
-use composer::{Refusal, Spaces, Tables};
+use composer::{Refusal, Tables};
 use model::EventKind;
 use yaml::{Head, Source};
 
@@ -27,18 +27,16 @@ fn load_nodes<S: Source>(
     anchor: &mut [u8],
     tag: &mut [u8],
     value: &mut [u8],
-    spaces: Spaces,
     tables: &mut Tables<'_>,
 ) -> Result<Loaded, Refusal>
     requires anchor { 64 ≤ length anchor.old }
     requires tag { 256 ≤ length tag.old }
     requires value { 4096 ≤ length value.old }
-    requires sound { Sound spaces tables.old }
-    ensures { Runs (running_on spaces (start_marked begin.now) (S.Source.flow source.old) (state_of tables.old)) spaces tables.old result tables.new (S.Source.flow source.new) }
+    ensures { Runs (running_on (spaces_of tables.old) (start_marked begin.now) (S.Source.flow source.old) (state_of tables.old)) tables.old result tables.new (S.Source.flow source.new) }
 {
     loop {
         let head = next_head(source)?;
-        take_event(source, &head, anchor, tag, value, spaces, tables)?;
+        take_event(source, &head, anchor, tag, value, tables)?;
         if is_document_end(head.kind) {
             return Ok(Loaded {
                 nodes: tables.node_count(),
@@ -57,12 +55,10 @@ fn load_nodes<S: Source>(
 // Between documents: a whole document, or the stream's end.
 fn load_document<S: Source>(
     source: &mut S,
-    spaces: Spaces,
     tables: &mut Tables<'_>,
 ) -> Result<Option<Loaded>, Refusal>
-    requires sound { Sound spaces tables.old }
     requires blank { state_of tables.old ≡ blank }
-    ensures { Ends (between_on spaces (S.Source.flow source.old)) spaces tables.old result tables.new (S.Source.flow source.new) }
+    ensures { Ends (between_on (spaces_of tables.old) (S.Source.flow source.old)) tables.old result tables.new (S.Source.flow source.new) }
 {
     let head = next_head(source)?;
     match head.kind {
@@ -70,15 +66,7 @@ fn load_document<S: Source>(
             let mut anchor = [0u8; 64];
             let mut tag = [0u8; 256];
             let mut value = [0u8; 4096];
-            let loaded = load_nodes(
-                source,
-                &head,
-                &mut anchor,
-                &mut tag,
-                &mut value,
-                spaces,
-                tables,
-            )?;
+            let loaded = load_nodes(source, &head, &mut anchor, &mut tag, &mut value, tables)?;
             Ok(Some(loaded))
         }
         EventKind::StreamEnd => Ok(None),
@@ -89,16 +77,14 @@ fn load_document<S: Source>(
 // Before the stream's start.
 fn load_stream<S: Source>(
     source: &mut S,
-    spaces: Spaces,
     tables: &mut Tables<'_>,
 ) -> Result<Option<Loaded>, Refusal>
-    requires sound { Sound spaces tables.old }
     requires blank { state_of tables.old ≡ blank }
-    ensures { Ends (fresh_on spaces (S.Source.flow source.old)) spaces tables.old result tables.new (S.Source.flow source.new) }
+    ensures { Ends (fresh_on (spaces_of tables.old) (S.Source.flow source.old)) tables.old result tables.new (S.Source.flow source.new) }
 {
     let head = next_head(source)?;
     match head.kind {
-        EventKind::StreamStart => load_document(source, spaces, tables),
+        EventKind::StreamStart => load_document(source, tables),
         _ => Err(Refusal::NotInTurn { at: head.start }),
     }
 }
@@ -107,16 +93,14 @@ fn load_stream<S: Source>(
 pub fn load_from<S: Source>(
     phase: Phase,
     source: &mut S,
-    spaces: Spaces,
     tables: &mut Tables<'_>,
 ) -> Result<Option<Loaded>, Refusal>
-    requires sound { Sound spaces tables.old }
     requires blank { state_of tables.old ≡ blank }
-    ensures { Ends (loading_on spaces phase (S.Source.flow source.old)) spaces tables.old result tables.new (S.Source.flow source.new) }
+    ensures { Ends (loading_on (spaces_of tables.old) phase (S.Source.flow source.old)) tables.old result tables.new (S.Source.flow source.new) }
 {
     match phase {
-        Phase::Fresh => load_stream(source, spaces, tables),
-        Phase::Between => load_document(source, spaces, tables),
+        Phase::Fresh => load_stream(source, tables),
+        Phase::Between => load_document(source, tables),
         Phase::Ended => Ok(None),
         Phase::Spoilt => Err(Refusal::EarlierRefused),
     }

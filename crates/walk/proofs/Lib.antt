@@ -9,3 +9,4 @@ pub mod Goings
 pub mod Within
 pub mod Planned
 pub mod OneAnswer
+pub mod Lacking

@@ -12,7 +12,7 @@ use tables::Empty;
 
 // What is known of a node.
 #[repr(C)]
-#[derive(Clone, Copy, PartialEq, Eq, Debug, Default)]
+#[derive(Clone, Copy, PartialEq, Eq, Debug)]
 pub struct Counted {
     // how often it was counted
     pub references: u32,
@@ -26,7 +26,11 @@ impl Empty for Counted {
     ghost empty = { empty_counted };
 
     fn none() -> Counted {
-        Counted::default()
+        Counted {
+            references: 0,
+            anchor: 0,
+            serialized: 0,
+        }
     }
 }
 
@@ -80,7 +84,7 @@ impl Error for NoSuchStep {}
 
 // One step of the walk.
 #[repr(C)]
-#[derive(Clone, Copy, PartialEq, Eq, Debug, Default)]
+#[derive(Clone, Copy, PartialEq, Eq, Debug)]
 pub struct Step {
     // the number of what it does; 0 only in an empty entry
     pub what: u32,
@@ -110,7 +114,7 @@ impl Empty for Step {
     ghost empty = { empty_step };
 
     fn none() -> Step {
-        Step::default()
+        Step { what: 0, node: 0 }
     }
 }
 

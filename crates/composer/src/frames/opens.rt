@@ -3,6 +3,7 @@ ghost use Rattle.std.specs.Prelude.{◌≡◌, ◌+◌, ◌^◌, ◌<◌, []};
 ghost use Rattle.composer.specs.Opens.{opens, innermost, within, outer, Opened, top_children, one_more_child};
 
 use super::{Frame, Frames};
+use tables::Full;
 
 impl Frames {
     // No collection is open.
@@ -24,47 +25,36 @@ impl Frames {
     pub fn len(&self) -> usize
         ensures { within self.now result }
     {
-        let all: &[Frame] = &self.all;
-        let space = all.len();
-        if self.count < space {
-            self.count
-        } else {
-            space
-        }
+        self.count
     }
 
     // The innermost one.
     pub fn top(&self) -> Option<Frame>
         ensures { result ≡ innermost (opens self.now) }
     {
-        let held = self.len();
-        if held == 0 {
-            return None;
-        }
-        Some(self.all[held - 1])
+        let top = self.count.checked_sub(1)?;
+        Some(self.all[top])
     }
 
-    // Opens one more, or says no: 256 are open.
-    pub fn push(&mut self, frame: Frame) -> bool
+    // Opens one more, unless 256 are open.
+    pub fn push(&mut self, frame: Frame) -> Result<(), Full>
         ensures { Opened self.old frame result self.new }
     {
         let top = self.count;
-        let all: &[Frame] = &self.all;
-        if top >= all.len() {
-            return false;
+        if top == 256 {
+            return Err(Full);
         }
         self.all[top] = frame;
         self.count = top + 1;
-        true
+        Ok(())
     }
 
     // Closes the innermost one.
     pub fn pop(&mut self)
         ensures { opens self.new ≡ outer (opens self.old) }
     {
-        let held = self.len();
-        if held > 0 {
-            self.count = held - 1;
+        if self.count > 0 {
+            self.count -= 1;
         }
     }
 
@@ -80,9 +70,8 @@ impl Frames {
         requires { top_children (opens self.old) + 1 < 2 ^ 32 }
         ensures { opens self.new ≡ one_more_child (opens self.old) }
     {
-        let held = self.len();
-        if held > 0 {
-            let top = held - 1;
+        if self.count > 0 {
+            let top = self.count - 1;
             self.all[top].children += 1;
         }
     }

@@ -1,68 +1,51 @@
 // Children: they wait until their collection ends.
-ghost use Rattle.std.specs.Prelude.{◌≡◌};
-ghost use Rattle.composer.specs.Holding.{Sound, Does, state_of};
-ghost use Rattle.composer.specs.Steps.{adding, adding_newest, opening, is_mapping};
+ghost use Rattle.composer.specs.Holding.{Does, state_of, spaces_of};
+ghost use Rattle.composer.specs.Steps.{adding, adding_newest, opening};
 
-use super::{Spaces, Tables};
+use super::Tables;
 use crate::frames::Frame;
 use crate::refusal::Refusal;
 use model::{Mark, NodeKind};
 
-// Whether a kind of node is a mapping.
-fn is_mapping(kind: NodeKind) -> bool
-    ensures { result ≡ is_mapping kind }
-{
-    match kind {
-        NodeKind::Mapping => true,
-        NodeKind::Scalar | NodeKind::Sequence => false,
-    }
-}
-
 impl<'a> Tables<'a> {
     // 29: the node of that number becomes a child of the innermost open collection; the root is no child.
-    pub fn load_node_add(&mut self, spaces: Spaces, number: u32, start: Mark) -> Result<(), Refusal>
-        requires sound { Sound spaces self.old }
-        ensures { Does (adding spaces start number (state_of self.old)) spaces self.old result self.new }
+    pub fn load_node_add(&mut self, number: u32, start: Mark) -> Result<(), Refusal>
+        ensures { Does (adding (spaces_of self.old) start number (state_of self.old)) self.old result self.new }
     {
         if self.frames.len() == 0 {
             return Ok(());
         }
-        if self.waiting.len() >= spaces.waiting {
+        let spaces = self.spaces();
+        let waiting = self.waiting.len();
+        let placed = self.links.len();
+        if waiting >= spaces.waiting || placed + waiting >= spaces.links {
             return Err(Refusal::ChildrenFull { at: start });
         }
-        if self.links.len() + self.waiting.len() >= spaces.links {
-            return Err(Refusal::ChildrenFull { at: start });
-        }
-        if !self.waiting.push(number) {
-            return Err(Refusal::ChildrenFull { at: start });
-        }
+        self.waiting.push(number).unwrap();
         self.frames.count_child();
         Ok(())
     }
 
     // The same for the newest node.
-    pub fn add_newest(&mut self, spaces: Spaces, start: Mark) -> Result<(), Refusal>
-        requires sound { Sound spaces self.old }
-        ensures { Does (adding_newest spaces start (state_of self.old)) spaces self.old result self.new }
+    pub fn add_newest(&mut self, start: Mark) -> Result<(), Refusal>
+        ensures { Does (adding_newest (spaces_of self.old) start (state_of self.old)) self.old result self.new }
     {
         let newest = self.nodes.len() as u32;
-        self.load_node_add(spaces, newest, start)
+        self.load_node_add(newest, start)
     }
 
     // 30: the newest node is open.
-    pub fn begin(&mut self, spaces: Spaces, kind: NodeKind, start: Mark) -> Result<(), Refusal>
-        requires sound { Sound spaces self.old }
-        ensures { Does (opening kind start (state_of self.old)) spaces self.old result self.new }
+    pub fn begin(&mut self, kind: NodeKind, start: Mark) -> Result<(), Refusal>
+        ensures { Does (opening kind start (state_of self.old)) self.old result self.new }
     {
         let frame = Frame {
             node: self.nodes.len() as u32,
             children: 0,
-            mapping: is_mapping(kind),
+            mapping: matches!(kind, NodeKind::Mapping),
         };
-        if self.frames.push(frame) {
-            Ok(())
-        } else {
-            Err(Refusal::TooDeep { at: start })
+        if self.frames.push(frame).is_err() {
+            return Err(Refusal::TooDeep { at: start });
         }
+        Ok(())
     }
 }

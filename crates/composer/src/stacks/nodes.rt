@@ -1,22 +1,17 @@
 // Nodes: one more, with its texts.
-ghost use Rattle.std.specs.Prelude.{◌≡◌, ◌≤◌, length};
+ghost use Rattle.std.specs.Prelude.{◌≡◌};
 ghost use Rattle.model.specs.Graph.{numbered};
 ghost use Rattle.tables.specs.Stacks.{contents};
-ghost use Rattle.composer.specs.Holding.{Sound, Does, state_of, Relinked};
-ghost use Rattle.composer.specs.Steps.{noding_with, value_place, value_for, kind_number};
+ghost use Rattle.composer.specs.Holding.{Does, state_of, spaces_of, marked, Relinked};
+ghost use Rattle.composer.specs.Steps.{noding, value_place, value_for};
 
-use super::{Spaces, Tables};
+use super::Tables;
+use crate::placed::Placed;
 use crate::refusal::Refusal;
+use crate::tags::resolve;
 use document::Node;
 use model::{Mark, NodeKind};
 use tables::Stack;
-
-// The number of a kind of node, as it stands in a node.
-fn kind_number(kind: NodeKind) -> u8
-    ensures { result ≡ kind_number kind }
-{
-    kind as u8
-}
 
 // Where the value begins; a collection has none.
 fn value_place(kind: NodeKind, place: u32) -> u32
@@ -42,10 +37,8 @@ pub fn value_for<'b>(kind: NodeKind, value: &'b [u8]) -> &'b [u8]
 pub fn node_at(nodes: &Stack<'_, Node>, number: u32) -> Option<Node>
     ensures { result ≡ numbered (contents nodes.now) number }
 {
-    if number == 0 {
-        return None;
-    }
-    nodes.get(number as usize - 1)
+    let place = number.checked_sub(1)?;
+    nodes.get(place as usize)
 }
 
 // The node of a number gets its links and its end.
@@ -59,38 +52,30 @@ pub fn link_node(nodes: &mut Stack<'_, Node>, number: u32, first: u32, count: u3
             end,
             ..node
         };
-        let _there = nodes.replace(number as usize - 1, linked);
+        nodes.replace(number as usize - 1, linked).unwrap();
     }
 }
 
 impl<'a> Tables<'a> {
-    // 25 and 26: a node with this tag and this value.
-    pub fn load_node(
-        &mut self,
-        spaces: Spaces,
-        kind: NodeKind,
-        style: u8,
-        tag: &[u8],
-        value: &[u8],
-        start: Mark,
-        end: Mark,
-    ) -> Result<(), Refusal>
-        requires sound { Sound spaces self.old }
-        requires tag { length tag.now ≤ 256 }
-        requires value { length value.now ≤ 4096 }
-        ensures { Does (noding_with spaces kind style tag.now value.now start end (state_of self.old)) spaces self.old result self.new }
+    // 25 and 26: a node of that kind with the tag and the value of its event.
+    pub fn load_node(&mut self, kind: NodeKind, placed: &Placed<'_>) -> Result<(), Refusal>
+        ensures { Does (noding (spaces_of self.old) kind (marked placed.now) (state_of self.old)) self.old result self.new }
     {
+        let tag = resolve(kind, placed.event.tag);
+        let value = value_for(kind, placed.event.value);
+        let at = placed.start;
+        let spaces = self.spaces();
         if self.nodes.len() >= spaces.nodes {
-            return Err(Refusal::NodesFull { at: start });
+            return Err(Refusal::NodesFull { at });
         }
         let place = self.text.len();
         let value_start = place + tag.len();
         if value_start + value.len() > spaces.text {
-            return Err(Refusal::TextFull { at: start });
+            return Err(Refusal::TextFull { at });
         }
         let node = Node {
-            kind: kind_number(kind),
-            style,
+            kind: u8::from(kind),
+            style: placed.event.style,
             tag_length: tag.len() as u16,
             value_length: value.len() as u16,
             filler: 0,
@@ -98,18 +83,12 @@ impl<'a> Tables<'a> {
             value_start: value_place(kind, value_start as u32),
             first_link: 0,
             link_count: 0,
-            start,
-            end,
+            start: at,
+            end: placed.end,
         };
-        if !self.text.extend(tag) {
-            return Err(Refusal::TextFull { at: start });
-        }
-        if !self.text.extend(value) {
-            return Err(Refusal::TextFull { at: start });
-        }
-        if !self.nodes.push(node) {
-            return Err(Refusal::NodesFull { at: start });
-        }
+        self.text.extend(tag).unwrap();
+        self.text.extend(value).unwrap();
+        self.nodes.push(node).unwrap();
         Ok(())
     }
 }

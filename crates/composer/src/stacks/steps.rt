@@ -1,128 +1,47 @@
 // What each event does.
 ghost use Rattle.std.specs.Prelude.{◌≡◌};
-ghost use Rattle.model.specs.declared.NodeKind.TheVariants.{Scalar, Sequence, Mapping};
-ghost use Rattle.yaml.specs.Shapes.{ev_of};
-ghost use Rattle.composer.specs.Holding.{Sound, Does, state_of, marked, Short};
+ghost use Rattle.composer.specs.Holding.{Does, state_of, spaces_of, marked};
 ghost use Rattle.composer.specs.Steps.{taking, aliasing, naming_adding, node_step, start_step, in_turn};
 
-use super::nodes::value_for;
-use super::{Spaces, Tables};
+use super::Tables;
 use crate::names::find;
+use crate::placed::Placed;
 use crate::refusal::Refusal;
-use crate::tags::resolve;
-use model::{EventKind, Mark, NodeKind};
-use yaml::Event;
+use model::{EventKind, NodeKind};
 
 impl<'a> Tables<'a> {
     // The newest node gets its anchor and its place as a child.
-    fn name_and_add(
-        &mut self,
-        spaces: Spaces,
-        event: &Event<'_>,
-        start: Mark,
-        end: Mark,
-    ) -> Result<(), Refusal>
-        requires sound { Sound spaces self.old }
-        requires short { Short (ev_of event.now) }
-        ensures { Does (naming_adding spaces (marked event.now start end) (state_of self.old)) spaces self.old result self.new }
+    fn name_and_add(&mut self, placed: &Placed<'_>) -> Result<(), Refusal>
+        ensures { Does (naming_adding (spaces_of self.old) (marked placed.now) (state_of self.old)) self.old result self.new }
     {
-        self.register_anchor(spaces, event.anchor, start)?;
-        self.add_newest(spaces, start)
+        self.register_anchor(placed.event.anchor, placed.start)?;
+        self.add_newest(placed.start)
     }
 
     // A node of any kind: 25 to 29.
-    fn load_any(
-        &mut self,
-        spaces: Spaces,
-        kind: NodeKind,
-        event: &Event<'_>,
-        start: Mark,
-        end: Mark,
-    ) -> Result<(), Refusal>
-        requires sound { Sound spaces self.old }
-        requires short { Short (ev_of event.now) }
-        ensures { Does (node_step spaces kind (marked event.now start end) (state_of self.old)) spaces self.old result self.new }
+    fn load_any(&mut self, kind: NodeKind, placed: &Placed<'_>) -> Result<(), Refusal>
+        ensures { Does (node_step (spaces_of self.old) kind (marked placed.now) (state_of self.old)) self.old result self.new }
     {
-        let tag = resolve(kind, event.tag);
-        let value = value_for(kind, event.value);
-        self.load_node(spaces, kind, event.style, tag, value, start, end)?;
-        self.name_and_add(spaces, event, start, end)
+        self.load_node(kind, placed)?;
+        self.name_and_add(placed)
     }
 
     // The start of a collection: 25 to 30.
-    fn load_start(
-        &mut self,
-        spaces: Spaces,
-        kind: NodeKind,
-        event: &Event<'_>,
-        start: Mark,
-        end: Mark,
-    ) -> Result<(), Refusal>
-        requires sound { Sound spaces self.old }
-        requires short { Short (ev_of event.now) }
-        ensures { Does (start_step spaces kind (marked event.now start end) (state_of self.old)) spaces self.old result self.new }
+    fn load_start(&mut self, kind: NodeKind, placed: &Placed<'_>) -> Result<(), Refusal>
+        ensures { Does (start_step (spaces_of self.old) kind (marked placed.now) (state_of self.old)) self.old result self.new }
     {
-        self.load_any(spaces, kind, event, start, end)?;
-        self.begin(spaces, kind, start)
-    }
-
-    fn load_scalar(
-        &mut self,
-        spaces: Spaces,
-        event: &Event<'_>,
-        start: Mark,
-        end: Mark,
-    ) -> Result<(), Refusal>
-        requires sound { Sound spaces self.old }
-        requires short { Short (ev_of event.now) }
-        ensures { Does (node_step spaces Scalar (marked event.now start end) (state_of self.old)) spaces self.old result self.new }
-    {
-        self.load_any(spaces, NodeKind::Scalar, event, start, end)
-    }
-
-    fn load_sequence(
-        &mut self,
-        spaces: Spaces,
-        event: &Event<'_>,
-        start: Mark,
-        end: Mark,
-    ) -> Result<(), Refusal>
-        requires sound { Sound spaces self.old }
-        requires short { Short (ev_of event.now) }
-        ensures { Does (start_step spaces Sequence (marked event.now start end) (state_of self.old)) spaces self.old result self.new }
-    {
-        self.load_start(spaces, NodeKind::Sequence, event, start, end)
-    }
-
-    fn load_mapping(
-        &mut self,
-        spaces: Spaces,
-        event: &Event<'_>,
-        start: Mark,
-        end: Mark,
-    ) -> Result<(), Refusal>
-        requires sound { Sound spaces self.old }
-        requires short { Short (ev_of event.now) }
-        ensures { Does (start_step spaces Mapping (marked event.now start end) (state_of self.old)) spaces self.old result self.new }
-    {
-        self.load_start(spaces, NodeKind::Mapping, event, start, end)
+        self.load_any(kind, placed)?;
+        self.begin(kind, placed.start)
     }
 
     // 24 and 29: an alias is the node that its anchor names.
-    fn load_alias(
-        &mut self,
-        spaces: Spaces,
-        event: &Event<'_>,
-        start: Mark,
-        end: Mark,
-    ) -> Result<(), Refusal>
-        requires sound { Sound spaces self.old }
-        ensures { Does (aliasing spaces (marked event.now start end) (state_of self.old)) spaces self.old result self.new }
+    fn load_alias(&mut self, placed: &Placed<'_>) -> Result<(), Refusal>
+        ensures { Does (aliasing (spaces_of self.old) (marked placed.now) (state_of self.old)) self.old result self.new }
     {
-        let Some(number) = find(self.anchors.entries(), event.anchor) else {
-            return Err(Refusal::UnknownAlias { at: start });
+        let Some(number) = find(self.anchors.entries(), placed.event.anchor) else {
+            return Err(Refusal::UnknownAlias { at: placed.start });
         };
-        self.load_node_add(spaces, number, start)
+        self.load_node_add(number, placed.start)
     }
 
     // 23
@@ -148,26 +67,20 @@ impl<'a> Tables<'a> {
     }
 
     // One event of a document: 23 to 30.
-    pub fn take(
-        &mut self,
-        spaces: Spaces,
-        event: &Event<'_>,
-        start: Mark,
-        end: Mark,
-    ) -> Result<(), Refusal>
-        requires sound { Sound spaces self.old }
-        requires short { Short (ev_of event.now) }
-        ensures { Does (taking spaces (marked event.now start end) (state_of self.old)) spaces self.old result self.new }
+    pub fn take(&mut self, placed: &Placed<'_>) -> Result<(), Refusal>
+        ensures { Does (taking (spaces_of self.old) (marked placed.now) (state_of self.old)) self.old result self.new }
     {
-        if !self.in_turn(event.kind) {
-            return Err(Refusal::NotInTurn { at: start });
+        if !self.in_turn(placed.event.kind) {
+            return Err(Refusal::NotInTurn { at: placed.start });
         }
-        match event.kind {
-            EventKind::Alias => self.load_alias(spaces, event, start, end),
-            EventKind::Scalar => self.load_scalar(spaces, event, start, end),
-            EventKind::SequenceStart => self.load_sequence(spaces, event, start, end),
-            EventKind::MappingStart => self.load_mapping(spaces, event, start, end),
-            EventKind::SequenceEnd | EventKind::MappingEnd => self.load_collection_end(spaces, end),
+        match placed.event.kind {
+            EventKind::Alias => self.load_alias(placed),
+            EventKind::Scalar => self.load_any(NodeKind::Scalar, placed),
+            EventKind::SequenceStart => self.load_start(NodeKind::Sequence, placed),
+            EventKind::MappingStart => self.load_start(NodeKind::Mapping, placed),
+            EventKind::SequenceEnd | EventKind::MappingEnd => {
+                self.load_collection_end(placed.end)
+            }
             EventKind::StreamStart
             | EventKind::StreamEnd
             | EventKind::DocumentStart

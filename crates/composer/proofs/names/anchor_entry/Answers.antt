@@ -1,14 +1,10 @@
-use Rattle.std.proofs.Common.{◌≡◌, length, get_or, set, ap, ◌∙◌, arith}
-use Rattle.composer.proofs.Finding.{entry_more, entry_all}
+use Rattle.std.proofs.Common.{◌++◌, length, drop, replicate, ap, ◌∙◌}
+use Rattle.std.proofs.lemmas.List.{drop-replicate}
 use Rattle.composer.proofs.names.anchor_entry.Goals as goal
-
-pub loop-i-preserved : goal.loop-i-preserved
-loop-i-preserved c =
-    let name = c.args.name.now in
-    let i = c.loop-i.i in
-    ap (λ l. set l i (get_or name i 0)) c.loop-i.invariant ∙ entry_more name i c.loop-i-test.true (omega arith)
 
 pub returns : goal.returns
 returns c =
-    let end : c.loop-i.i ≡ length c.args.name.now = omega arith in
-    entry_all c.args.name.now c.loop-i.bytes c.loop-i.i c.args.node end c.loop-i.invariant
+    let name = c.args.name.now in
+    let n = length name in
+    let bytes = ap (λ bs. bs ++ drop n (replicate 64 0)) c.copy_from_slice.ensures.after ∙ ap (λ zs. name ++ zs) (drop-replicate n 64 0) in
+    λ i. record { bytes = bytes i; size = n; node = c.args.node }

@@ -10,7 +10,7 @@ pub returns-in_err-head : goal.returns-in_err-head
 returns-in_err-head g c =
     let p = err_from_is_err_and c.from_residual.result c.from_residual.ensures.1 in
     rw (p.1, p.2)
-    (going_none c.args.spaces (start_marked c.args.begin.now) (g.S.Source.flow c.args.source.now) c.args.tables.now (g.S.Source.flow c.loop-head.source) c.loop-head.tables c.loop-head.invariant
+    (going_none (start_marked c.args.begin.now) (g.S.Source.flow c.args.source.now) c.args.tables.now (g.S.Source.flow c.loop-head.source) c.loop-head.tables c.loop-head.invariant
     (g.S.Source.flow c.next_head.new.source) _ c.in_err-head.ensures)
 
 pub take_event-requires : goal.take_event-requires
@@ -25,21 +25,20 @@ take_event-requires g c =
       anchor = omega (arith, c.requires.anchor, c.loop-head.auto.anchor);
       tag = omega (arith, c.requires.tag, c.loop-head.auto.tag);
       value = omega (arith, c.requires.value, c.loop-head.auto.value);
-      sound = c.loop-head.invariant.sound;
     }
 
 pub returns-in_err-take_event : goal.returns-in_err-take_event
 returns-in_err-take_event g c =
     let p = err_from_is_err_and c.from_residual-in_err-take_event.result c.from_residual-in_err-take_event.ensures.1 in
     rw (p.1, p.2)
-    (going_refused c.args.spaces (start_marked c.args.begin.now) (g.S.Source.flow c.args.source.now) c.args.tables.now (g.S.Source.flow c.loop-head.source) c.loop-head.tables c.loop-head.invariant
+    (going_refused (start_marked c.args.begin.now) (g.S.Source.flow c.args.source.now) c.args.tables.now (g.S.Source.flow c.loop-head.source) c.loop-head.tables c.loop-head.invariant
     (g.S.Source.flow c.next_head.new.source) c.in_ok-head.head c.in_ok-head.ensures _ c.take_event.new.tables c.in_err-take_event.ensures)
 
 pub returns-then-is_document_end : goal.returns-then-is_document_end
 returns-then-is_document_end g c =
     let one = c.in_ok-head.ensures in
     let begin = c.args.begin.now in
-    going_done c.args.spaces (start_marked begin) (g.S.Source.flow c.args.source.now) c.args.tables.now (g.S.Source.flow c.loop-head.source) c.loop-head.tables c.loop-head.invariant
+    going_done (start_marked begin) (g.S.Source.flow c.args.source.now) c.args.tables.now (g.S.Source.flow c.loop-head.source) c.loop-head.tables c.loop-head.invariant
     (g.S.Source.flow c.next_head.new.source) c.in_ok-head.head one c.take_event.new.tables c.in_ok-take_event.ensures (sym c.is_document_end.ensures ∙ c.if-is_document_end.true)
     _ (λ i. record {
       nodes = c.node_count.ensures i;
@@ -54,5 +53,5 @@ returns-then-is_document_end g c =
 
 pub loop-head-preserved : goal.loop-head-preserved
 loop-head-preserved g c =
-    going_on c.args.spaces (start_marked c.args.begin.now) (g.S.Source.flow c.args.source.now) c.args.tables.now (g.S.Source.flow c.loop-head.source) c.loop-head.tables c.loop-head.invariant
+    going_on (start_marked c.args.begin.now) (g.S.Source.flow c.args.source.now) c.args.tables.now (g.S.Source.flow c.loop-head.source) c.loop-head.tables c.loop-head.invariant
     (g.S.Source.flow c.next_head.new.source) c.in_ok-head.head c.in_ok-head.ensures c.take_event.new.tables c.in_ok-take_event.ensures (sym c.is_document_end.ensures ∙ c.if-is_document_end.false)

@@ -5,7 +5,7 @@ use Rattle.loader.proofs.stream.load_nodes.Given as goal
 
 -- the run from here is the run from the start
 abbrev pub invariant-loop-head : goal.invariant-loop-head
-invariant-loop-head g l = Going l.spaces (start_marked l.begin) (g.S.Source.flow l.initial.source) l.initial.tables (g.S.Source.flow l.source) l.tables
+invariant-loop-head g l = Going (start_marked l.begin) (g.S.Source.flow l.initial.source) l.initial.tables (g.S.Source.flow l.source) l.tables
 
 -- the events to come get fewer
 abbrev pub decreases-loop-head : goal.decreases-loop-head
