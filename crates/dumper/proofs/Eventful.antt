@@ -1,18 +1,20 @@
 -- The events of steps, read off a Document.
-use Rattle.std.proofs.Common.{◌≡◌, ℕ, ◌+◌, ◌-◌, ◌<◌, true, cond, eqb, List, [], ◌∷◌, ◌++◌, length, get_or, take, drop, Some, None, Option, sym, refl, ap, ◌∙◌, arith}
+use Rattle.std.proofs.Common.{◌≡◌, ℕ, ◌+◌, ◌-◌, ◌<◌, ◌≤◌, true, cond, eqb, List, [], ◌∷◌, ◌++◌, length, get_or, take, drop, Some, None, Option, IfSome, sym, refl, ap, ◌∙◌, inl, inr, arith}
 use Rattle.std.proofs.lemmas.List.{append_assoc, append-nil, map-append, take_more, drop_more, take-append-drop}
-use Rattle.std.proofs.lemmas.Bool.{and_parts, and_from, cond-true, cond-false, eq-eqb, ne_eqb}
+use Rattle.std.proofs.lemmas.Bool.{cases_Bool, and_parts, and_from, cond-true, cond-false, eq-eqb, ne_eqb}
 use Rattle.model.specs.declared.EventKind.{EventKind}
 use Rattle.model.specs.declared.NodeKind.{NodeKind}
 use Rattle.model.specs.Events.{Ev, allowed, all_allowed}
 use Rattle.model.specs.Graph.{Vertex, numbered}
 use Rattle.serial.specs.Walk.{Token, first, again, leave}
-use Rattle.serial.specs.Numbering.{number_of, anchor_of}
+use Rattle.serial.specs.Numbering.{number_of, name, anchor_of}
 use Rattle.serial.specs.Serialize.{same_bytes, default_tag, all_flags, start_kind, end_kind, plain, token_events, walk_events}
 use Rattle.document.specs.Reads.{given, kind_in, style_in, tag_in, value_in}
 use Rattle.runs.specs.Writer.{token_dues, walk_dues}
 use Rattle.walk.specs.declared.name.AnchorName.{AnchorName}
+use Rattle.walk.specs.declared.entry.Counted.{Counted}
 use Rattle.walk.specs.declared.entry.Step.{Step}
+use Rattle.walk.specs.Entries.{number_in}
 use Rattle.walk.specs.Names.{name_in}
 use Rattle.dumper.specs.Names.{name_of}
 use Rattle.dumper.specs.Steps.{token_of, tokens_of}
@@ -54,8 +56,22 @@ pub one_allowed : (es : List Ev) (e : Ev) → es ≡ e ∷ [] → all_allowed es
 one_allowed es e p a = (and_parts (allowed e) true (sym (ap all_allowed p) ∙ a)).0
 
 -- the name of a node's anchor
-pub anchor_told : (g : List Vertex) (v n m : ℕ) (a : AnchorName) → name_in a ≡ name_of n → n ≡ m → m ≡ number_of g v → name_in a ≡ anchor_of g v
-anchor_told g v n m a e p q = e ∙ ap name_of (p ∙ q)
+name_read : (n : ℕ) → name_of (cond (eqb n 0) None (Some n)) ≡ cond (eqb n 0) [] (name n)
+name_read n = elim (cases_Bool (eqb n 0)) [
+  | inl e ↦ ap name_of (cond-true (eqb n 0) None (Some n) e) ∙ sym (cond-true (eqb n 0) [] (name n) e)
+  | inr e ↦ ap name_of (cond-false (eqb n 0) None (Some n) e) ∙ sym (cond-false (eqb n 0) [] (name n) e)
+]
+
+pub anchor_told : (g : List Vertex) (v : ℕ) (o : Option ℕ) (c : Counted) (a : AnchorName) → name_in a ≡ name_of o → o ≡ number_in c → c.anchor ≡ number_of g v → name_in a ≡ anchor_of g v
+anchor_told g v o c a e p q = e ∙ ap name_of p ∙ name_read c.anchor ∙ ap (λ n. cond (eqb n 0) [] (name n)) q
+
+-- the number of an anchor that is read is as small as the one in the table
+pub number_small : (o : Option ℕ) (c : Counted) (n : ℕ) → o ≡ number_in c → c.anchor ≡ n → n ≤ 4096 → IfSome o (λ k. k < 10000)
+number_small None c n e p few = tt
+number_small (Some k) c n e p few = elim (cases_Bool (eqb c.anchor 0)) [
+  | inl z ↦ (let none : Some k ≡ None = e ∙ cond-true (eqb c.anchor 0) None (Some c.anchor) z in let bad : ◌≡◌ {A = ℕ} 0 1 = cc in absurd (omega (arith, bad)))
+  | inr z ↦ (let some : Some k ≡ Some c.anchor = e ∙ cond-false (eqb c.anchor 0) None (Some c.anchor) z in let same : k ≡ c.anchor = cc in omega arith)
+]
 
 pub anchor_part : (a : AnchorName) (bs : List ℕ) → name_in a ≡ bs → take (a.len - 0) a.bytes ≡ bs
 anchor_part a bs e = let whole : a.len - 0 ≡ a.len = omega arith in ap (λ n. take n a.bytes) whole ∙ e

@@ -1,5 +1,5 @@
 // The events of nodes.
-ghost use Rattle.std.specs.Prelude.{◌≡◌, ◌<◌, ◌≤◌, if◌then◌else◌};
+ghost use Rattle.std.specs.Prelude.{◌≡◌, ◌<◌, ◌≤◌, if◌then◌else◌, IfSome};
 ghost use Rattle.serial.specs.Serialize.{same_bytes, default_tag, all_flags, start_kind, end_kind, plain as plain_event};
 ghost use Rattle.yaml.specs.Shapes.{ev_of};
 ghost use Rattle.dumper.specs.Names.{Named};
@@ -89,16 +89,13 @@ pub(crate) fn flags_of(kind: NodeKind, tag: &[u8]) -> u8
     }
 }
 
-// The anchor of that number; without bytes for 0.
-pub(crate) fn name_of(number: u32) -> AnchorName
-    requires { number < 10000 }
+// The anchor of that number, if there is one; else without bytes.
+pub(crate) fn name_of(number: Option<u32>) -> AnchorName
+    requires { IfSome number (λ n. n < 10000) }
     ensures { Named number result }
 {
-    if number == 0 {
-        return AnchorName {
-            bytes: [0; 8],
-            len: 0,
-        };
+    match number {
+        Some(number) => generate_anchor(number),
+        None => AnchorName::none(),
     }
-    generate_anchor(number)
 }

@@ -9,4 +9,3 @@ pub mod Goings
 pub mod Within
 pub mod Planned
 pub mod OneAnswer
-pub mod Lacking

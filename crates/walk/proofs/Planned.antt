@@ -1,7 +1,9 @@
 -- From the contracts of numbering and walking to the answer of planning.
-use Rattle.std.proofs.Common.{◌≡◌, ℕ, zero, suc, ◌<◌, ◌≤◌, eqb, List, [], ◌∷◌, ◌++◌, map, length, get_or, take, drop, set, replicate, Some, None, sym, refl, ap, ◌∙◌, subst, inl, inr, ⊎_elim, arith}
+use Rattle.std.proofs.Common.{◌≡◌, ℕ, zero, suc, ◌<◌, ◌≤◌, eqb, List, [], ◌∷◌, ◌++◌, map, length, get_or, take, drop, set, replicate, Some, None, Option, sym, refl, ap, ◌∙◌, subst, inl, inr, ⊎_elim, arith}
 use mathlib.Core.List.Memᴰ
 use lib.ListN.{length-map}
+use Rattle.std.specs.List.{find}
+use Rattle.std.specs.Option.{option_map}
 use Rattle.std.proofs.lemmas.List.{set_at, append_assoc, length_push, get_or-replicate, get_or_past, length-replicate, take_at}
 use Rattle.std.proofs.lemmas.Bool.{cases_lt, cases_Bool, eq-eqb, eqb-true, eqb-false, cond-true, cond-false}
 use Rattle.model.specs.Graph.{Vertex, Book}
@@ -16,9 +18,9 @@ use Rattle.serial.proofs.Exists.{walk_exists}
 use Rattle.serial.proofs.Anchors.{seconds_few, anchors_apart}
 use Rattle.walk.specs.declared.entry.Counted.{Counted}
 use Rattle.walk.specs.declared.entry.Step.{Step}
-use Rattle.walk.specs.Entries.{empty_counted, entry_at}
+use Rattle.walk.specs.Entries.{empty_counted, made, entry_at}
 use Rattle.walk.specs.Going.{step_of, puts, state, Marks, WentFrom, Went, NoWay, CanVisit}
-use Rattle.walk.specs.Plans.{first_lacking, AllNamed, FirstUnnamed, TheWalk, Deep, FewSteps, Unnamed, ReadyToWrite, Prepared}
+use Rattle.walk.specs.Plans.{lacks, first_lacking, AllNamed, FirstUnnamed, TheWalk, Deep, FewSteps, Unnamed, ReadyToWrite, Prepared}
 use Rattle.walk.proofs.Sounds.{sound, sound_graph}
 use Rattle.walk.proofs.Within.{place_few, named_some, all_inside}
 use Rattle.walk.proofs.Marking.{unmet_when}
@@ -104,6 +106,9 @@ steps_still g t t' s s' n p w le =
     let f = went g t t' s s' n p w in
     f.steps ∙ puts_all s f.tokens (omega (arith, f.at))
 
+abbrev node_of : Option Step → Option ℕ
+node_of s = option_map (λ (x : Step). x.node) s
+
 -- no step lacks an anchor
 named_all : (g : List Vertex) (t : List Counted) (ts : List Token) → ((v : ℕ) → (entry_at t v).anchor ≡ number_of g v) → first_lacking t (map step_of ts) ≡ None → AllNamed g ts
 named_all g t [] anchors e = λ v m. absurd (Memᴰ.not-nil m)
@@ -118,9 +123,9 @@ named_all g t (leave w ∷ ts) anchors e = λ v m z. elim (Memᴰ.cases_cons m) 
 named_all g t (again w ∷ ts) anchors e = λ v m z.
     let test = eqb (entry_at t w).anchor 0 in
     ⊎_elim
-    (λ yes-so. let is = cond-true test (Some w) (first_lacking t (map step_of ts)) yes-so in let bad : ◌≡◌ {A = ℕ} 0 1 = cc in omega arith)
+    (λ yes-so. let is = ap node_of (cond-true test (Some (made 2 w)) (find (lacks t) (map step_of ts)) yes-so) in let bad : ◌≡◌ {A = ℕ} 0 1 = cc in omega arith)
     (λ not_so.
-    let on : first_lacking t (map step_of ts) ≡ None = sym (cond-false test (Some w) (first_lacking t (map step_of ts)) not_so) ∙ e in
+    let on : first_lacking t (map step_of ts) ≡ None = sym (ap node_of (cond-false test (Some (made 2 w)) (find (lacks t) (map step_of ts)) not_so)) ∙ e in
     elim (Memᴰ.cases_cons m) [
       | inl same ↦ (let eq : v ≡ w = cc in let zero-at : (entry_at t w).anchor ≡ 0 = anchors w ∙ ap (λ k. number_of g k) (sym eq) ∙ z in
           let so = eq-eqb (entry_at t w).anchor 0 zero-at in let bad : ◌≡◌ {A = ℕ} 0 1 = cc in omega arith)
@@ -150,7 +155,7 @@ first_unnamed g t (again w ∷ ts) v anchors e =
     let test = eqb (entry_at t w).anchor 0 in
     ⊎_elim
     (λ yes-so.
-    let is = cond-true test (Some w) (first_lacking t (map step_of ts)) yes-so in
+    let is = ap node_of (cond-true test (Some (made 2 w)) (find (lacks t) (map step_of ts)) yes-so) in
     let same : w ≡ v = cc in
     record {
       before = [];
@@ -162,7 +167,7 @@ first_unnamed g t (again w ∷ ts) v anchors e =
     (λ not_so.
     one_more_lem g ts (again w) v
     (λ u same z. let eq : u ≡ w = cc in eqb-false (entry_at t w).anchor 0 not_so (anchors w ∙ ap (λ k. number_of g k) (sym eq) ∙ z))
-    (first_unnamed g t ts v anchors (sym (cond-false test (Some w) (first_lacking t (map step_of ts)) not_so) ∙ e)))
+    (first_unnamed g t ts v anchors (sym (ap node_of (cond-false test (Some (made 2 w)) (find (lacks t) (map step_of ts)) not_so)) ∙ e)))
     (cases_Bool test)
 
 -- the front of the table, which was looked through

@@ -39,3 +39,7 @@ entry_at t (suc k) = slice_index_or t k empty_counted
 abbrev pub replaced : List Counted → ℕ → Counted → List Counted
 replaced t zero c = t
 replaced t (suc k) c = slice_set t k c
+
+-- the number of the anchor that an entry tells, if it tells one
+abbrev pub number_in : Counted → Option ℕ
+number_in c = cond (c.anchor == 0) None (Some c.anchor)

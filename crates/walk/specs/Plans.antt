@@ -1,5 +1,7 @@
 -- What planning answers, and when.
-use Rattle.std.specs.Prelude.{◌≡◌, ℕ, ◌+◌, ◌<◌, ◌≤◌, Bool, cond, ◌&&◌, List, [], ◌∷◌, ◌++◌, map, length, drop, Some, None, Option, Ok, Err, Result, ◌==◌, ◌≢◌}
+use Rattle.std.specs.Prelude.{◌≡◌, ℕ, ◌+◌, ◌<◌, ◌≤◌, Bool, ◌&&◌, List, [], ◌∷◌, ◌++◌, map, length, drop, Option, Ok, Err, Result, ◌==◌, ◌≢◌}
+use Rattle.std.specs.List.{find}
+use Rattle.std.specs.Option.{option_map}
 use mathlib.Core.List.{Memᴰ}
 use Rattle.model.specs.Graph.{Vertex}
 use Rattle.serial.specs.Walk.{Token, first, again, leave, Walk}
@@ -20,8 +22,7 @@ lacks t s = s.what == 2 && (entry_at t s.node).anchor == 0
 
 -- the first of the steps that meets such a node
 abbrev pub first_lacking : List Counted → List Step → Option ℕ
-first_lacking t [] = None
-first_lacking t (s ∷ ss) = cond (lacks t s) (Some s.node) (first_lacking t ss)
+first_lacking t ss = option_map (λ (s : Step). s.node) (find (lacks t) ss)
 
 -- every node that is met again has an anchor
 abbrev pub AllNamed : List Vertex → List Token → Type 0

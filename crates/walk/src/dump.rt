@@ -32,6 +32,7 @@ impl Walk<'_, '_> {
         ensures stepped { Stepped kind node (state_of self.old) (state_of self.new) }
         ensures tables { SameTables self.old self.new }
     {
+        // by index: tried with `get_mut`, of which no contract says what the table holds once the entry is written
         let place = self.count;
         if place < self.steps.len() {
             self.steps[place] = Step::new(kind, node);

@@ -12,7 +12,7 @@ use tables::Empty;
 
 // What is known of a node.
 #[repr(C)]
-#[derive(Clone, Copy, PartialEq, Eq, Debug)]
+#[derive(Clone, Copy, PartialEq, Eq, Debug, Default)]
 pub struct Counted {
     // how often it was counted
     pub references: u32,
@@ -26,11 +26,7 @@ impl Empty for Counted {
     ghost empty = { empty_counted };
 
     fn none() -> Counted {
-        Counted {
-            references: 0,
-            anchor: 0,
-            serialized: 0,
-        }
+        Counted::default()
     }
 }
 
@@ -84,7 +80,7 @@ impl Error for NoSuchStep {}
 
 // One step of the walk.
 #[repr(C)]
-#[derive(Clone, Copy, PartialEq, Eq, Debug)]
+#[derive(Clone, Copy, PartialEq, Eq, Debug, Default)]
 pub struct Step {
     // the number of what it does; 0 only in an empty entry
     pub what: u32,
@@ -114,7 +110,7 @@ impl Empty for Step {
     ghost empty = { empty_step };
 
     fn none() -> Step {
-        Step { what: 0, node: 0 }
+        Step::default()
     }
 }
 

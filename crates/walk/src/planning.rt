@@ -1,7 +1,7 @@
 // Planning how a Document is written, before anything is written: the anchors' numbers and the steps of the walk.
 ghost use Rattle.std.specs.Prelude.{◌≡◌, length, replicate};
 ghost use Rattle.document.specs.Books.{book_of};
-ghost use Rattle.walk.specs.Entries.{entry_at, empty_counted, empty_step};
+ghost use Rattle.walk.specs.Entries.{entry_at, number_in, empty_counted, empty_step};
 ghost use Rattle.walk.specs.Plans.{lacks, first_lacking, Prepared, Plans, Determined};
 
 use crate::count::anchor_node;
@@ -48,37 +48,30 @@ impl Drop for Reset<'_> {
     }
 }
 
-// The number of a node's anchor; 0 where it has none, or is no node.
-pub fn anchor_of(counting: &[Counted], node: u32) -> u32
-    ensures { result ≡ (entry_at counting.now node).anchor }
+// The number of a node's anchor, if it has one.
+pub fn anchor_of(counting: &[Counted], node: u32) -> Option<u32>
+    ensures { result ≡ number_in (entry_at counting.now node) }
 {
-    let place = node as usize;
-    if place == 0 {
-        return 0;
-    }
-    if place > counting.len() {
-        return 0;
-    }
-    counting[place - 1].anchor
+    let place = (node as usize).checked_sub(1)?;
+    let anchor = counting.get(place)?.anchor;
+    if anchor == 0 { None } else { Some(anchor) }
 }
 
 // Whether a step meets a node again that has no anchor.
 fn lacks_anchor(counting: &[Counted], step: Step) -> bool
     ensures { result ≡ lacks counting.now step }
 {
-    matches!(step.kind(), Some(StepKind::Again)) && anchor_of(counting, step.node) == 0
+    matches!(step.kind(), Some(StepKind::Again)) && anchor_of(counting, step.node).is_none()
 }
 
 // The first node that is met again and has no anchor.
 fn first_lacking(counting: &[Counted], steps: &[Step]) -> Option<u32>
     ensures { result ≡ first_lacking counting.now steps.now }
 {
-    for step in steps {
-        if lacks_anchor(counting, *step) {
-            return Some(step.node);
-        }
-    }
-    None
+    steps
+        .iter()
+        .find(|step| lacks_anchor(counting, **step))
+        .map(|step| step.node)
 }
 
 // Walks over the numbered nodes.

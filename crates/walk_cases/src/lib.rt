@@ -1,22 +1,19 @@
 // Small documents and what planning says of them: which nodes get an anchor, the steps, and each refusal.
 #![tactic(auto)]
 
-use document::{Document, Handed, Node};
+use document::{Document, Handed, Node, NodeKind};
 use tables::Empty;
-use walk::{Counted, Step, Unplanned, anchor_of, generate_anchor, make_plan};
+use walk::{Counted, Step, StepKind, Unplanned, anchor_of, generate_anchor, make_plan};
 
 // A node of the kind with that many links from a place on; its tag is the first byte of the text.
-pub fn node(kind: u8, first_link: u32, link_count: u32) -> Node {
-    let mut node = <Node as Empty>::none();
-    node.kind = kind;
-    node.tag_length = 1;
-    node.first_link = first_link;
-    node.link_count = link_count;
-    node
-}
-
-pub fn step(what: u32, node: u32) -> Step {
-    Step { what, node }
+pub fn node(kind: NodeKind, first_link: u32, link_count: u32) -> Node {
+    Node {
+        kind: u8::from(kind),
+        tag_length: 1,
+        first_link,
+        link_count,
+        ..Node::none()
+    }
 }
 
 // What planning says of a Document on these nodes and links; the counter is not at 0 before.
@@ -41,13 +38,14 @@ pub fn planned<'x>(
 
 // so many sequences, each in the one before, the last one empty; there is no room for steps
 pub fn nested(deep: u32) -> Result<usize, Unplanned> {
-    let mut nodes = [node(2, 0, 0); 257];
+    let mut nodes = [node(NodeKind::Sequence, 0, 0); 257];
     let mut links = [0u32; 257];
-    let mut counting = [<Counted as Empty>::none(); 257];
-    for i in 0..257u32 {
-        links[i as usize] = i + 2;
-        if i + 1 < deep {
-            nodes[i as usize] = node(2, i, 1);
+    let mut counting = [Counted::none(); 257];
+    for (i, (node, link)) in nodes.iter_mut().zip(links.iter_mut()).enumerate() {
+        *link = i as u32 + 2;
+        if i as u32 + 1 < deep {
+            node.first_link = i as u32;
+            node.link_count = 1;
         }
     }
     planned(&nodes, &links, &mut counting, &mut [])
@@ -70,25 +68,29 @@ mod plans {
     // a mapping whose key is its value
     #[test]
     fn shared_by_the_root(rt: HostRuntime) {
-        let nodes = [node(3, 0, 2), node(1, 0, 0)];
-        let mut counting = [<Counted as Empty>::none(); 2];
-        let mut steps = [<Step as Empty>::none(); 5];
+        let nodes = [node(NodeKind::Mapping, 0, 2), node(NodeKind::Scalar, 0, 0)];
+        let mut counting = [Counted::none(); 2];
+        let mut steps = [Step::none(); 5];
         assert_eq!(rt; planned(&nodes, &[2, 2], &mut counting, &mut steps), Ok(4));
-        assert_eq!(rt; anchor_of(&counting, 1), 0);
-        assert_eq!(rt; anchor_of(&counting, 2), 1);
-        assert_eq!(rt; steps[0], step(1, 1));
-        assert_eq!(rt; steps[1], step(1, 2));
-        assert_eq!(rt; steps[2], step(2, 2));
-        assert_eq!(rt; steps[3], step(3, 1));
-        assert_eq!(rt; steps[4], step(0, 0));
+        assert_eq!(rt; anchor_of(&counting, 1), None);
+        assert_eq!(rt; anchor_of(&counting, 2), Some(1));
+        assert_eq!(rt; steps[0], Step::new(StepKind::First, 1));
+        assert_eq!(rt; steps[1], Step::new(StepKind::First, 2));
+        assert_eq!(rt; steps[2], Step::new(StepKind::Again, 2));
+        assert_eq!(rt; steps[3], Step::new(StepKind::Leave, 1));
+        assert_eq!(rt; steps[4], Step::none());
     }
 
     // only the root's own links are counted
     #[test]
     fn shared_below(rt: HostRuntime) {
-        let nodes = [node(2, 0, 1), node(2, 1, 2), node(1, 0, 0)];
-        let mut counting = [<Counted as Empty>::none(); 3];
-        let mut steps = [<Step as Empty>::none(); 8];
+        let nodes = [
+            node(NodeKind::Sequence, 0, 1),
+            node(NodeKind::Sequence, 1, 2),
+            node(NodeKind::Scalar, 0, 0),
+        ];
+        let mut counting = [Counted::none(); 3];
+        let mut steps = [Step::none(); 8];
         assert_eq!(rt;
             planned(&nodes, &[2, 3, 3], &mut counting, &mut steps),
             Err(Unplanned::NoAnchor(3))
@@ -97,11 +99,11 @@ mod plans {
 
     #[test]
     fn small_tables(rt: HostRuntime) {
-        let nodes = [node(2, 0, 1), node(1, 0, 0)];
-        let mut one = [<Counted as Empty>::none(); 1];
-        let mut two = [<Counted as Empty>::none(); 2];
-        let mut few = [<Step as Empty>::none(); 2];
-        let mut enough = [<Step as Empty>::none(); 3];
+        let nodes = [node(NodeKind::Sequence, 0, 1), node(NodeKind::Scalar, 0, 0)];
+        let mut one = [Counted::none(); 1];
+        let mut two = [Counted::none(); 2];
+        let mut few = [Step::none(); 2];
+        let mut enough = [Step::none(); 3];
         assert_eq!(rt;
             planned(&[], &[], &mut one, &mut few),
             Err(Unplanned::NoNodes)
