@@ -157,13 +157,21 @@ impl<'a> Event<'a> {
     pub fn head(&self, start: Mark, end: Mark) -> Head
         ensures { result ≡ head_with (ev_of self.now) start end }
     {
+        let Shape {
+            kind,
+            style,
+            flags,
+            anchor,
+            tag,
+            value,
+        } = self.shape();
         Head {
-            kind: self.kind,
-            style: self.style,
-            flags: self.flags,
-            anchor: self.anchor.len(),
-            tag: self.tag.len(),
-            value: self.value.len(),
+            kind,
+            style,
+            flags,
+            anchor,
+            tag,
+            value,
             start,
             end,
         }
