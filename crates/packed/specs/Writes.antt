@@ -1,5 +1,5 @@
 -- What a packed writer means.
-use Rattle.std.specs.Prelude.{◌≡◌, ℕ, ◌+◌, ◌-◌, ◌≤◌, true, List, ◌++◌, length, take}
+use Rattle.std.specs.Prelude.{◌≡◌, ℕ, ◌+◌, ◌-◌, ◌≤◌, true, List, [], ◌∷◌, ◌++◌, length, take}
 use Rattle.std.proofs.Common.{arith}
 use Rattle.model.specs.Events.{Ev, allowed}
 use Rattle.model.specs.Reading.{read_all, events_of, write_all, fault_number}
@@ -28,15 +28,13 @@ pub record Put (before : PackedWriter) (at : ℕ) (bytes : List ℕ) (end : ℕ)
   pub front : take end after.out.now ≡ take at before.out.now ++ bytes
   pub used : after.used ≡ before.used
   pub length_same : length after.out.now ≡ length before.out.now
-  pub same : after.out.ghost_name ≡ before.out.ghost_name
 
--- an event's bytes stand behind those that hold events, up to a place, and nothing before them altered
+-- an event was stored behind those that are held, up to a place: it is read behind them, and then nothing
 pub record Stored (before : PackedWriter) (e : Ev) (end : ℕ) (after : PackedWriter) : Type 0 where
   pub place : end ≡ before.used + size_of e
-  pub bytes : take end after.out.now ≡ held before ++ packed_of e
-  pub used : after.used ≡ before.used
+  pub appended : events_of (read_all packed_front (take end after.out.now)) ≡ (view_of before).taken ++ e ∷ []
+  pub whole : fault_number (read_all packed_front (take end after.out.now)).after ≡ 0
   pub length_same : length after.out.now ≡ length before.out.now
-  pub same : after.out.ghost_name ≡ before.out.ghost_name
 
 -- the bytes that a writer leaves hold exactly the events taken: they are what is written for them, and a reader finds them and then nothing
 pub record Finished (w : PackedWriter) (bytes : List ℕ) : Type 0 where

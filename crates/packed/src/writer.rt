@@ -5,7 +5,8 @@ ghost use Rattle.packed.specs.Packed.{packed_front};
 
 pub mod sink;
 
-// The slice, and how many of its bytes hold events; these bytes are read to their end.
+// The slice, and how many of its bytes hold events; these bytes are read to their end. Slice and count stay beside one another: the user lends
+// the memory, and a library crate has no heap for a Vec.
 #[derive(Drop)]
 pub struct PackedWriter<'a> {
     out: &'a mut [u8],

@@ -10,6 +10,7 @@ use yaml::{Event, EventKind, Refusal, Sink, Source, Text};
 // How many events come of an input, and the number and the place of the fault after them, if there is one.
 pub fn reading(bytes: &[u8]) -> (usize, Option<(u8, u64)>) {
     let mut reader = PackedReader::new(bytes);
+    // a count of the events asked for, and no index: a source is no iterator
     for i in 0..20 {
         match reader.next_event() {
             Ok(Some(_)) => {}
