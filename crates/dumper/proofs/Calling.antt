@@ -1,131 +1,72 @@
 -- The questions of a call, and its answer.
-use Rattle.std.proofs.Common.{◌≡◌, ℕ, ◌-◌, ◌≤◌, true, false, List, [], ◌∷◌, ◌++◌, map, length, take, drop, Ok, Err, Result, sym, refl, ap, ◌∙◌, subst, inl, inr, arith}
+use Rattle.std.proofs.Common.{◌≡◌, ℕ, ◌≤◌, true, false, List, [], ◌∷◌, ◌++◌, map, length, take, drop, Ok, Err, Result, sym, refl, ap, ◌∙◌, subst, arith}
 use mathlib.Core.List.{Memᴰ}
-use Rattle.std.proofs.lemmas.List.{take_at, length-map, nil_from_length}
+use Rattle.std.proofs.lemmas.List.{take_at, length-map}
 use Rattle.model.specs.Events.{Ev, all_allowed}
-use Rattle.model.specs.Graph.{Vertex, Book}
-use Rattle.serial.specs.Walk.{Token, first, again, leave, Walk}
+use Rattle.serial.specs.Walk.{Token, first, again, leave}
 use Rattle.serial.specs.Serialize.{book_events}
-use Rattle.serial.proofs.Allowed.{book_allowed}
 use Rattle.document.specs.Sound.{SoundBook}
 use Rattle.walk.specs.declared.entry.Counted.{Counted}
 use Rattle.walk.specs.declared.entry.Step.{Step}
 use Rattle.walk.specs.Going.{step_of}
-use Rattle.walk.specs.Plans.{FirstUnnamed, TheWalk, FewCounts, Deep, FewSteps, Unnamed, ReadyToWrite}
-use Rattle.runs.specs.Writer.{State, Handed, Call, dumping, deepest, Yes, unspoilt, unclosed, counted, shallow, stepped, anchored, dump_questions, AllYes, FirstNo, Passes, Fails, Due, start_due, book_dues, Dumps, empty, walked, Wants, Called}
-use Rattle.runs.proofs.Sounds.{looks_within}
-use Rattle.runs.proofs.Pieces.{anchor_given}
-use Rattle.dumper.specs.declared.answer.Cut.{Cut}
-use Rattle.dumper.specs.Answers.{answer_of, answered}
+use Rattle.walk.specs.Plans.{Unnamed, ReadyToWrite}
+use Rattle.yaml.specs.declared.sink.Refusal.TheVariants.{NoSpace}
+use Rattle.runs.specs.Writer.{State, Handed, Call, dumping, Passes, Fails, Due, start_due, book_dues, walked, Wants, accepted, Called}
+use Rattle.runs.proofs.Answering.{dump_fails_anchors, dump_passes, dump_allowed}
+use Rattle.dumper.specs.declared.answer.Why.TheVariants.{Sink}
+use Rattle.dumper.specs.declared.answer.Refused.{Refused}
+use Rattle.dumper.specs.Answers.{answer_of}
 use Rattle.dumper.specs.Steps.{tokens_of}
-use Rattle.dumper.specs.States.{Goes, went, broke}
-use Rattle.dumper.specs.Calls.{Told}
+use Rattle.dumper.specs.States.{Went, Broke, Goes, went, broke}
 
--- a call that passed its questions is answered by how far its events went
-pub called_by : (weight : Ev → ℕ) (c : Call) (s : State) (ds : List Due) (r : Result (Unit {0}) Cut) (t : State) (m : ℕ)
-    → Passes c s → Wants c s ds → Goes weight s 0 ds r t m → Called weight c s (answer_of (answered m r)) t
-called_by weight c s ds r t m passed wanted (went e w) =
-    subst (λ q. Called weight c s (answer_of (answered m q)) t) (sym e)
-    (record { dues = ds; passed = passed; wanted = wanted; counted = let k = w.counted in omega arith; took = w.took; spoilt = w.spoilt })
-called_by weight c s ds r t m passed wanted (broke e b) =
-    subst (λ q. Called weight c s (answer_of (answered m q)) t) (sym e)
-    (record {
-      done = b.done;
-      next_one = b.next_one;
-      left = b.left;
-      passed = passed;
-      wanted = subst (Wants c s) b.split wanted;
-      counted = let k = b.counted in omega arith;
-      took = b.took;
-      spoilt = b.spoilt;
-      node_told = b.node_told;
-      size_told = b.size_told;
-      space_told = b.space_told;
-      too_large = b.too_large;
-    })
+-- a call that passed its questions and counted anew is answered by how far its events went
+module _ (weight : Ev → ℕ) (c : Call) {s₁ s t : State} {n m : ℕ} (ds : List Due) (same : s₁ ≡ s) (anew : n ≡ 0) (passed : Passes c s) (wanted : Wants c s ds) where
+  pub called_well : {k : ℕ} → k ≡ m → Went weight s₁ n ds t m → Called weight c s (accepted k) t
+  called_well e w₁ =
+      let w = subst (λ x. Went weight x n ds t m) same w₁ in
+      record { dues = ds; passed = passed; wanted = wanted; counted = let k = w.counted in omega arith; took = w.took; spoilt = w.spoilt }
 
-pub told_answered : (b : Book) (m : ℕ) (r : Result (Unit {0}) Cut) → Told b (answered m r)
-told_answered b m (Ok u) = tt
-told_answered b m (Err c) = tt
+  pub called_short : {r : Result ℕ Refused} {f : Refused} → ((x : Refused) × (r ≡ Err x) × (x ≡ f)) → Goes weight s₁ n ds (Err f) t m → Called weight c s (answer_of r) t
+  called_short p (went e w) = let z : ◌≡◌ {A = ℕ} 0 1 = cc in absurd (omega (arith, z))
+  called_short {r} {f} p (broke {node} {size} {space} e b₁) =
+      let b = subst (λ x. Broke weight x n ds node size space t m) same b₁ in
+      let cut : ◌≡◌ {A = Result ℕ Refused} (Err (record { events = m; why = Sink node (NoSpace size space) })) r = cc in
+      subst (λ q. Called weight c s (answer_of q) t) cut
+      (record {
+        done = b.done;
+        next_one = b.next_one;
+        left = b.left;
+        passed = passed;
+        wanted = subst (Wants c s) b.split wanted;
+        counted = let k = b.counted in omega arith;
+        took = b.took;
+        spoilt = b.spoilt;
+        node_told = b.node_told;
+        size_told = b.size_told;
+        space_told = b.space_told;
+        too_large = b.too_large;
+      })
 
--- a document without nodes
-asked_once : (s : State) (h : Handed) (g : List Vertex) → g ≡ [] → s.spoilt ≡ false → AllYes s (dump_questions h g)
-asked_once s h [] e p = (p, tt)
-asked_once s h (x ∷ g) e p = let z : ◌≡◌ {A = ℕ} 0 1 = cc in absurd (omega (arith, z))
-
-pub passes_empty : (s : State) (h : Handed) → length h.book.nodes ≡ 0 → s.spoilt ≡ false → Passes (dumping h) s
-passes_empty s h e p = asked_once s h h.book.nodes (nil_from_length h.book.nodes e) p
-
-pub wants_nothing : (s : State) (h : Handed) → length h.book.nodes ≡ 0 → Wants (dumping h) s (start_due s.opened ++ Rattle.runs.specs.Writer.end_due s.closed)
-wants_nothing s h e = empty (nil_from_length h.book.nodes e) refl
-
--- one with nodes
+-- a document with nodes
 module _ (s : State) (h : Handed) where
-  asked_all : (g : List Vertex) → 1 ≤ length g → Yes s unspoilt → Yes s unclosed → Yes s (counted h) → Yes s (shallow h) → Yes s (stepped h) → Yes s (anchored h) → AllYes s (dump_questions h g)
-  asked_all [] l a b c d e f = absurd (omega arith)
-  asked_all (x ∷ g) l a b c d e f = (a, (b, (c, (d, (e, (f, tt))))))
-
-  no_54 : (g : List Vertex) → 1 ≤ length g → Yes s unspoilt → (Yes s unclosed → ⊥) → FirstNo s (dump_questions h g) 54
-  no_54 [] l a b = absurd (omega arith)
-  no_54 (x ∷ g) l a b = inr (a, inl (b, refl))
-
-  no_55 : (g : List Vertex) → 1 ≤ length g → Yes s unspoilt → Yes s unclosed → (Yes s (counted h) → ⊥) → FirstNo s (dump_questions h g) 55
-  no_55 [] l a b c = absurd (omega arith)
-  no_55 (x ∷ g) l a b c = inr (a, inr (b, inl (c, refl)))
-
-  no_56 : (g : List Vertex) → 1 ≤ length g → Yes s unspoilt → Yes s unclosed → Yes s (counted h) → (Yes s (shallow h) → ⊥) → FirstNo s (dump_questions h g) 56
-  no_56 [] l a b c d = absurd (omega arith)
-  no_56 (x ∷ g) l a b c d = inr (a, inr (b, inr (c, inl (d, refl))))
-
-  no_57 : (g : List Vertex) → 1 ≤ length g → Yes s unspoilt → Yes s unclosed → Yes s (counted h) → Yes s (shallow h) → (Yes s (stepped h) → ⊥) → FirstNo s (dump_questions h g) 57
-  no_57 [] l a b c d e = absurd (omega arith)
-  no_57 (x ∷ g) l a b c d e = inr (a, inr (b, inr (c, inr (d, inl (e, refl)))))
-
-  no_58 : (g : List Vertex) → 1 ≤ length g → Yes s unspoilt → Yes s unclosed → Yes s (counted h) → Yes s (shallow h) → Yes s (stepped h) → (Yes s (anchored h) → ⊥) → FirstNo s (dump_questions h g) 58
-  no_58 [] l a b c d e f = absurd (omega arith)
-  no_58 (x ∷ g) l a b c d e f = inr (a, inr (b, inr (c, inr (d, inr (e, inl (f, refl))))))
-
-  pub fails_closed : 1 ≤ length h.book.nodes → s.spoilt ≡ false → (s.closed ≡ false → ⊥) → Fails (dumping h) s 54
-  fails_closed l a b = no_54 h.book.nodes l a b
-
-  pub fails_counts : s.spoilt ≡ false → s.closed ≡ false → FewCounts h.book.nodes h.counts → Fails (dumping h) s 55
-  fails_counts a b f = no_55 h.book.nodes f.some a b (λ y. let few = f.few in omega arith)
-
-  pub fails_deep : s.spoilt ≡ false → s.closed ≡ false → Deep h.book.nodes h.counts → Fails (dumping h) s 56
-  fails_deep a b f = no_56 h.book.nodes f.enough.some a b f.enough.room (λ w. f.too_deep w.0 w.1 w.2)
-
-  pub fails_steps : s.spoilt ≡ false → s.closed ≡ false → FewSteps h.book.nodes h.counts h.steps → Fails (dumping h) s 57
-  fails_steps a b f =
-      no_57 h.book.nodes f.enough.some a b f.enough.room (f.tokens, f.seen, f.walk.walk)
-      (λ y. let fits = y f.tokens f.seen f.walk.walk in let few = f.few in omega arith)
-
-  stepped_by : (tokens : List Token) (seen : List ℕ) → TheWalk h.book.nodes tokens seen → length tokens ≤ h.steps → Yes s (stepped h)
-  stepped_by tokens seen w fits ts met u = let same = ap length (w.only 256 ts met u).0 in omega arith
-
   pub fails_anchors : (v : ℕ) → s.spoilt ≡ false → s.closed ≡ false → Unnamed h.book.nodes h.counts h.steps v → Fails (dumping h) s 58
   fails_anchors v a b f =
-      no_58 h.book.nodes f.enough.some a b f.enough.room (f.tokens, f.seen, f.walk.walk) (stepped_by f.tokens f.seen f.walk f.fits)
-      (λ y. y f.tokens f.seen f.walk.walk v (subst (Memᴰ (again v)) (sym f.first_one.split) (stands f.first_one.before f.first_one.rest)) f.first_one.unnamed)
+      dump_fails_anchors h s f.enough.some a b f.enough.room f.walk.walk f.fits v
+      (subst (Memᴰ (again v)) (sym f.first_one.split) (stands f.first_one.before f.first_one.rest)) f.first_one.unnamed
     where
       stands : (xs ys : List Token) → Memᴰ (again v) (xs ++ again v ∷ ys)
       stands [] ys = Memᴰ.head refl
       stands (x ∷ xs) ys = Memᴰ.tail (stands xs ys)
 
-  pub told_unnamed : (v : ℕ) → Unnamed h.book.nodes h.counts h.steps v → (ts : List Token) (seen : List ℕ) → Walk h.book.nodes deepest ts seen → FirstUnnamed h.book.nodes ts v
-  told_unnamed v f ts seen w = subst (λ xs. FirstUnnamed h.book.nodes xs v) (sym (f.walk.only deepest ts seen w).0) f.first_one
-
   -- the plan was made
   module _ (steps : List Step) (n : ℕ) (t : List Counted) (held : List Step) (p : ReadyToWrite h.book.nodes h.counts steps n t held) where
     pub passes_planned : s.spoilt ≡ false → s.closed ≡ false → h.steps ≡ length steps → Passes (dumping h) s
-    passes_planned a b e =
-        asked_all h.book.nodes p.enough.some a b p.enough.room (p.tokens, p.seen, p.walk.walk)
-        (stepped_by p.tokens p.seen p.walk (let fits = p.fits in omega arith))
-        (λ ts seen w v m. p.named v (subst (Memᴰ (again v)) (p.walk.only deepest ts seen w).0 m))
+    passes_planned a b e = dump_passes h s p.enough.some a b p.enough.room p.walk.walk (let fits = p.fits in omega arith) p.named
 
-    pub tokens_told : tokens_of (take (n - 0) held) ≡ p.tokens
+    tokens_told : tokens_of (take n held) ≡ p.tokens
     tokens_told =
-        let long : length (map step_of p.tokens) ≡ n - 0 = length-map p.tokens step_of ∙ (let k = p.count in omega arith) in
-        ap tokens_of (ap (take (n - 0)) p.steps_hold ∙ take_at (map step_of p.tokens) (drop (length p.tokens) steps) (n - 0) long) ∙ back p.tokens
+        let long : length (map step_of p.tokens) ≡ n = length-map p.tokens step_of ∙ sym p.count in
+        ap tokens_of (ap (take n) p.steps_hold ∙ take_at (map step_of p.tokens) (drop (length p.tokens) steps) n long) ∙ back p.tokens
       where
         back : (ts : List Token) → tokens_of (map step_of ts) ≡ ts
         back [] = refl
@@ -133,10 +74,8 @@ module _ (s : State) (h : Handed) where
         back (again v ∷ ts) = ap (λ xs. again v ∷ xs) (back ts)
         back (leave v ∷ ts) = ap (λ xs. leave v ∷ xs) (back ts)
 
-    pub wants_planned : Wants (dumping h) s (start_due s.opened ++ book_dues h.book (tokens_of (take (n - 0) held)))
+    pub wants_planned : Wants (dumping h) s (start_due s.opened ++ book_dues h.book (tokens_of (take n held)))
     wants_planned = walked p.walk.walk (ap (λ ts. start_due s.opened ++ book_dues h.book ts) tokens_told)
 
-    pub planned_allowed : SoundBook h.book → all_allowed (book_events h.book (tokens_of (take (n - 0) held))) ≡ true
-    planned_allowed sound =
-        ap (λ ts. all_allowed (book_events h.book ts)) tokens_told
-        ∙ book_allowed h.book p.tokens (looks_within h.book sound) (λ v m. anchor_given h.book.nodes v (p.named v m))
+    pub planned_allowed : SoundBook h.book → all_allowed (book_events h.book (tokens_of (take n held))) ≡ true
+    planned_allowed sound = ap (λ ts. all_allowed (book_events h.book ts)) tokens_told ∙ dump_allowed h.book p.tokens sound p.named

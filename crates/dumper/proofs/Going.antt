@@ -1,5 +1,5 @@
 -- How the events of a call go on from one writer's state to another.
-use Rattle.std.proofs.Common.{◌≡◌, ℕ, ◌+◌, Bool, true, false, ◌||◌, ltb, ◌⊎◌, List, [], ◌∷◌, ◌++◌, length, Ok, Err, Result, sym, refl, ap, ◌∙◌, subst, inl, inr, arith}
+use Rattle.std.proofs.Common.{◌≡◌, ℕ, ◌+◌, Bool, true, false, ◌||◌, ltb, ◌⊎◌, List, [], ◌∷◌, ◌++◌, length, Ok, Err, Result, is_err, sym, refl, ap, ◌∙◌, subst, inl, inr, arith}
 use Rattle.std.proofs.lemmas.List.{append_assoc, append-nil, length-append}
 use Rattle.std.proofs.lemmas.Bool.{or_parts, both_ways, lt-ltb, le-ltb}
 use Rattle.model.specs.declared.EventKind.{EventKind}
@@ -11,7 +11,7 @@ use Rattle.yaml.specs.View.{View}
 use Rattle.runs.specs.Writer.{State, Due, due_of, events, has_kind, stream_start, stream_end, start_due, end_due, book_dues, Took}
 use Rattle.runs.proofs.Wanted.{events_append, total_append, kind_append, book_no_start, book_no_end}
 use Rattle.runs.proofs.Moves.{cut_cases, no_cut}
-use Rattle.dumper.specs.declared.answer.Cut.{Cut}
+use Rattle.dumper.specs.declared.answer.Refused.{Refused}
 use Rattle.dumper.specs.Handing.{AllIn, SomeIn, Hands, all_in, some_in}
 use Rattle.dumper.specs.States.{state_by, Went, Broke, Goes, went, broke}
 
@@ -40,27 +40,16 @@ module _ (weight : Ev → ℕ) where
       }
 
 module _ {weight : Ev → ℕ} where
-  pub went_none : (s : State) (n : ℕ) → Went weight s n [] s n
-  went_none s n = record {
-    took = record { taken = sym (append-nil s.taken); room = omega arith; opened = or_none s.opened false refl; closed = or_none s.closed false refl };
-    spoilt = refl;
-    counted = omega arith;
-    few = omega arith;
-  }
-
   -- some, which start no document, and then others
   module _ {s t : State} {n m : ℕ} {xs : List Due} (a : Went weight s n xs t m) (no_start : has_kind DocumentStart xs ≡ false) where
     went_then : {u : State} {k : ℕ} {ys : List Due} → Went weight t m ys u k → Went weight s n (xs ++ ys) u k
     went_then {u} {k} {ys} b =
         let c₁ = a.counted in
         let c₂ = b.counted in
-        let f₁ = a.few in
-        let f₂ = b.few in
         record {
           took = took_then weight xs ys a.took b.took;
           spoilt = b.spoilt ∙ a.spoilt;
           counted = omega (arith, length-append xs ys);
-          few = omega arith;
         }
 
     broke_then : {u : State} {k node size space : ℕ} {ys : List Due} → Broke weight t m ys node size space u k → Broke weight s n (xs ++ ys) node size space u k
@@ -82,7 +71,7 @@ module _ {weight : Ev → ℕ} where
           too_large = b.too_large;
         }
 
-    pub goes_then : {u : State} {k : ℕ} {ys : List Due} {r : Result (Unit {0}) Cut} → Goes weight t m ys r u k → Goes weight s n (xs ++ ys) r u k
+    pub goes_then : {u : State} {k : ℕ} {ys : List Due} {r : Result (Unit {0}) Refused} → Goes weight t m ys r u k → Goes weight s n (xs ++ ys) r u k
     goes_then (went e b) = went e (went_then b)
     goes_then (broke e b) = broke e (broke_then b)
 
@@ -102,7 +91,7 @@ module _ {weight : Ev → ℕ} where
   }
 
   module _ {s t : State} {n m : ℕ} {xs : List Due} where
-    pub goes_before : {c : Cut} (ys : List Due) → Goes weight s n xs (Err c) t m → Goes weight s n (xs ++ ys) (Err c) t m
+    pub goes_before : {c : Refused} (ys : List Due) → Goes weight s n xs (Err c) t m → Goes weight s n (xs ++ ys) (Err c) t m
     goes_before ys (went e b) = let z : ◌≡◌ {A = ℕ} 0 1 = cc in absurd (omega (arith, z))
     goes_before ys (broke e b) = broke e (broke_before ys b)
 
@@ -110,10 +99,10 @@ module _ {weight : Ev → ℕ} where
     went_of (went e b) = b
     went_of (broke e b) = let z : ◌≡◌ {A = ℕ} 0 1 = cc in absurd (omega (arith, z))
 
-    pub goes_left : {r : Result (Unit {0}) Cut} {c : Cut} → ((x : Cut) × (r ≡ Err x) × (x ≡ c)) → Goes weight s n xs (Err c) t m → Goes weight s n xs r t m
+    pub goes_left : {r : Result (Unit {0}) Refused} {c : Refused} → ((x : Refused) × (r ≡ Err x) × (x ≡ c)) → Goes weight s n xs (Err c) t m → Goes weight s n xs r t m
     goes_left p h = subst (λ q. Goes weight s n xs q t m) (sym (p.1 ∙ ap Err p.2)) h
 
-    pub goes_as : {ys : List Due} {r : Result (Unit {0}) Cut} → xs ≡ ys → Goes weight s n xs r t m → Goes weight s n ys r t m
+    pub goes_as : {ys : List Due} {r : Result (Unit {0}) Refused} → xs ≡ ys → Goes weight s n xs r t m → Goes weight s n ys r t m
     goes_as {r = r} e h = subst (λ ds. Goes weight s n ds r t m) e h
 
 -- what breaks off before the end of a document
@@ -164,31 +153,13 @@ module _ {weight : Ev → ℕ} {v v' : View} {n m : ℕ} where
       }
 
   -- it was refused, and nothing else alters
-  pub one_cut : (o c p : Bool) {d : Due} {f : Cut} → Hands weight v n (d ∷ []) (Err f) v' m → Goes weight (state_by o c p v) n (d ∷ []) (Err f) (state_by o c p v') m
+  pub one_cut : (o c p : Bool) {d : Due} {f : Refused} → Hands weight v n (d ∷ []) (Err f) v' m → Goes weight (state_by o c p v) n (d ∷ []) (Err f) (state_by o c p v') m
   one_cut o c p (all_in e b) = let z : ◌≡◌ {A = ℕ} 0 1 = cc in absurd (omega (arith, z))
   one_cut o c p (some_in e b) = broke e (one_broke o c p b)
 
-  pub started : (o c p : Bool) → o ≡ false → AllIn weight v n (due_of 0 stream_start ∷ []) v' m → Went weight (state_by o c p v) n (start_due o) (state_by true c p v') m
-  started true c p e a = absurd (both_ways true e refl)
-  started false c p e a = record {
-    took = record { taken = a.taken; room = a.room; opened = refl; closed = or_none c false refl };
-    spoilt = refl;
-    counted = a.counted;
-    few = a.few;
-  }
-
-  pub ended : (o c p : Bool) → c ≡ false → AllIn weight v n (due_of 0 stream_end ∷ []) v' m → Went weight (state_by o c p v) n (end_due c) (state_by o true p v') m
-  ended o true p e a = absurd (both_ways true e refl)
-  ended o false p e a = record {
-    took = record { taken = a.taken; room = a.room; opened = or_none o false refl; closed = refl };
-    spoilt = refl;
-    counted = a.counted;
-    few = a.few;
-  }
-
   -- a document, whole or broken off
   module _ (b : Book) (ts : List Token) where
-    pub book_went : (o c p : Bool) → AllIn weight v n (book_dues b ts) v' m → Went weight (state_by o c p v) n (book_dues b ts) (state_by o c p v') m
+    book_went : (o c p : Bool) → AllIn weight v n (book_dues b ts) v' m → Went weight (state_by o c p v) n (book_dues b ts) (state_by o c p v') m
     book_went o c p a = record {
       took = record {
         taken = a.taken;
@@ -198,7 +169,6 @@ module _ {weight : Ev → ℕ} {v v' : View} {n m : ℕ} where
       };
       spoilt = refl;
       counted = a.counted;
-      few = a.few;
     }
 
     book_broke : (o c p q : Bool) {node size space : ℕ} → p ≡ false → q ≡ ltb n m → SomeIn weight v n (book_dues b ts) node size space v' m → Broke weight (state_by o c p v) n (book_dues b ts) node size space (state_by o c q v') m
@@ -221,18 +191,13 @@ module _ {weight : Ev → ℕ} {v v' : View} {n m : ℕ} where
       too_large = s.too_large;
     }
 
-    pub book_cut : (o c p q : Bool) {f : Cut} → p ≡ false → q ≡ ltb n m → Hands weight v n (book_dues b ts) (Err f) v' m → Goes weight (state_by o c p v) n (book_dues b ts) (Err f) (state_by o c q v') m
-    book_cut o c p q none is (all_in e a) = let z : ◌≡◌ {A = ℕ} 0 1 = cc in absurd (omega (arith, z))
-    book_cut o c p q none is (some_in e s) = broke e (book_broke o c p q none is s)
+    pub book_kept : (o c p : Bool) {r : Result (Unit {0}) Refused} → is_err r ≡ false → Hands weight v n (book_dues b ts) r v' m → Goes weight (state_by o c p v) n (book_dues b ts) r (state_by o c p v') m
+    book_kept o c p kept (all_in e a) = went e (book_went o c p a)
+    book_kept o c p kept (some_in e s) = absurd (both_ways _ kept (ap is_err e))
 
--- the stream is started already, or ended
-pub start_none : {weight : Ev → ℕ} (s : State) (n : ℕ) (o : Bool) → o ≡ true → Went weight s n (start_due o) s n
-start_none s n true e = went_none s n
-start_none s n false e = absurd (both_ways false refl e)
-
-pub end_none : {weight : Ev → ℕ} (s : State) (n : ℕ) (c : Bool) → c ≡ true → Went weight s n (end_due c) s n
-end_none s n true e = went_none s n
-end_none s n false e = absurd (both_ways false refl e)
+    pub book_cut : (o c p q : Bool) {r : Result (Unit {0}) Refused} → is_err r ≡ true → p ≡ false → q ≡ ltb n m → Hands weight v n (book_dues b ts) r v' m → Goes weight (state_by o c p v) n (book_dues b ts) r (state_by o c q v') m
+    book_cut o c p q cut none is (all_in e a) = absurd (both_ways _ (ap is_err e) cut)
+    book_cut o c p q cut none is (some_in e s) = broke e (book_broke o c p q none is s)
 
 pub start_is : (o : Bool) → o ≡ false → due_of 0 stream_start ∷ [] ≡ start_due o
 start_is o e = ap start_due (sym e)

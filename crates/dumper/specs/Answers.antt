@@ -1,11 +1,10 @@
 -- The answers of the calls, as the law over whole runs has them.
-use Rattle.std.specs.Prelude.{ℕ, Ok, Err, Result}
+use Rattle.std.specs.Prelude.{◌≡◌, ℕ, Ok, Err, Result}
 use Rattle.runs.specs.Writer.{own, sink, Answer, accepted, refused}
 use Rattle.runs.specs.Writer as runs
 use Rattle.dumper.specs.declared.answer.Why.{Why}
 use Rattle.dumper.specs.declared.answer.Why.TheVariants.{AlreadyOpened, NotOpened, Spoilt, Closed, TooFewCounts, TooDeep, TooFewSteps, NoAnchor, Sink}
 use Rattle.dumper.specs.declared.answer.Refused.{Refused}
-use Rattle.dumper.specs.declared.answer.Cut.{Cut}
 
 abbrev pub why_of : Why → runs.Why
 why_of AlreadyOpened = own 51
@@ -22,7 +21,6 @@ abbrev pub answer_of : Result ℕ Refused → Answer
 answer_of (Ok n) = accepted n
 answer_of (Err f) = refused f.events (why_of f.why)
 
--- the answer of a call that passed its own questions, after so many events
-abbrev pub answered : ℕ → Result (Unit {0}) Cut → Result ℕ Refused
-answered n (Ok u) = Ok n
-answered n (Err c) = Err (record { events = n; why = Sink c.node c.refusal })
+-- a refusal by a question that is asked before the sink is: no event was taken
+abbrev pub Unasked : Why → Refused → Type 0
+Unasked why r = r ≡ record { events = 0; why = why }

@@ -1,21 +1,19 @@
 -- How far some events that are due went into a sink, and how they are counted.
-use Rattle.std.specs.Prelude.{◌≡◌, ℕ, ◌+◌, ◌^◌, ◌<◌, ◌≤◌, List, ◌∷◌, ◌++◌, length, Ok, Err, Result}
+use Rattle.std.specs.Prelude.{◌≡◌, ℕ, ◌+◌, ◌<◌, List, ◌∷◌, ◌++◌, length, Ok, Err, Result}
 use Rattle.model.specs.Events.{Ev}
 use Rattle.yaml.specs.declared.sink.Refusal.TheVariants.{NoSpace}
+use Rattle.yaml.specs.declared.sink.Sink.{Ghosts}
 use Rattle.yaml.specs.View.{View}
 use Rattle.runs.specs.Writer.{Due, events, total}
-use Rattle.dumper.specs.declared.answer.Cut.{Cut}
-
--- so many events were counted that the counter holds even if each byte of the room is an event
-abbrev pub Countable : ℕ → View → Type 0
-Countable n v = n + v.room < 2 ^ 64
+use Rattle.dumper.specs.declared.answer.Why.TheVariants.{Sink}
+use Rattle.dumper.specs.declared.answer.Refused.{Refused}
+use Rattle.dumper.specs.declared.outlet.Outlet.{Outlet}
 
 -- all of them were taken
 pub record AllIn (weight : Ev → ℕ) (v : View) (n : ℕ) (ds : List Due) (v' : View) (m : ℕ) : Type 0 where
   pub taken : v'.taken ≡ v.taken ++ events ds
   pub room : v'.room + total weight ds ≡ v.room
   pub counted : m ≡ n + length ds
-  pub few : m + v'.room ≤ n + v.room
 
 -- those before the first that does not fit were
 pub record SomeIn (weight : Ev → ℕ) (v : View) (n : ℕ) (ds : List Due) (node size space : ℕ) (v' : View) (m : ℕ) : Type 0 where
@@ -30,6 +28,10 @@ pub record SomeIn (weight : Ev → ℕ) (v : View) (n : ℕ) (ds : List Due) (no
   pub too_large : v'.room < weight next_one.event
 
 -- One or the other, by the answer. All these events are allowed, so that a sink refuses one only for lack of space.
-pub data Hands (weight : Ev → ℕ) (v : View) (n : ℕ) (ds : List Due) (r : Result (Unit {0}) Cut) (v' : View) (m : ℕ) : Type 0 where
+pub data Hands (weight : Ev → ℕ) (v : View) (n : ℕ) (ds : List Due) (r : Result (Unit {0}) Refused) (v' : View) (m : ℕ) : Type 0 where
   all_in : r ≡ Ok tt → AllIn weight v n ds v' m → Hands weight v n ds r v' m
-  some_in : {node size space : ℕ} → r ≡ Err (record { node = node; refusal = NoSpace size space }) → SomeIn weight v n ds node size space v' m → Hands weight v n ds r v' m
+  some_in : {node size space : ℕ} → r ≡ Err (record { events = m; why = Sink node (NoSpace size space) }) → SomeIn weight v n ds node size space v' m → Hands weight v n ds r v' m
+
+-- the same of an outlet before and after
+abbrev pub Handed : {S : Type 0} {k : Ghosts S} → Outlet S k → List Due → Result (Unit {0}) Refused → Outlet S k → Type 0
+Handed {k = k} o ds r o' = Hands k.weight (k.view o.sink) o.events ds r (k.view o'.sink) o'.events

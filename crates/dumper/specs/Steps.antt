@@ -1,8 +1,11 @@
 -- The steps of a walk, as the step table has them, and the events that they stand for.
-use Rattle.std.specs.Prelude.{◌≡◌, ℕ, ◌≤◌, cond, List, map, ◌==◌}
+use Rattle.std.specs.Prelude.{◌≡◌, ℕ, ◌≤◌, cond, List, [], ◌∷◌, map, Some, None, Option, ◌==◌}
+use Rattle.model.specs.Events.{Ev}
 use Rattle.model.specs.Graph.{Vertex}
 use Rattle.serial.specs.Walk.{Token, first, again, leave}
 use Rattle.serial.specs.Numbering.{number_of}
+use Rattle.yaml.specs.declared.event.Event.{Event}
+use Rattle.yaml.specs.Shapes.{ev_of}
 use Rattle.walk.specs.declared.entry.Counted.{Counted}
 use Rattle.walk.specs.declared.entry.Step.{Step}
 use Rattle.walk.specs.Entries.{entry_at}
@@ -18,3 +21,8 @@ tokens_of ss = map token_of ss
 pub record Numbers (g : List Vertex) (t : List Counted) : Type 0 where
   pub anchors : (v : ℕ) → (entry_at t v).anchor ≡ number_of g v
   pub few : (v : ℕ) → number_of g v ≤ 4096
+
+-- the event of a step, if there is one
+abbrev pub listed : Option Event → List Ev
+listed None = []
+listed (Some e) = ev_of e ∷ []

@@ -1,8 +1,10 @@
 // What the calls of a writer answer.
 ghost use Rattle.std.specs.Prelude.{◌≡◌};
 ghost use Rattle.runs.specs.Writer.{why_number};
-ghost use Rattle.dumper.specs.Answers.{why_of, answered};
+ghost use Rattle.dumper.specs.Answers.{why_of, Unasked};
 
+use std::error::Error;
+use std::fmt;
 use yaml::Refusal;
 
 // Why a call is refused; the questions are asked in this order.
@@ -24,9 +26,47 @@ pub enum Why {
     TooFewSteps,
     // 58: this node is met again and has no anchor; it is the first such
     NoAnchor(u32),
-    // 59: the sink did not take an event of this node; 0 stands for the stream and the document
+    // 59: the sink did not take an event of this node; 0 stands for the stream and the document, as in what C is told
     Sink { node: u32, refusal: Refusal },
 }
+
+impl Why {
+    // The number of the refusal.
+    pub fn number(self) -> u8
+        ensures { result ≡ why_number (why_of self) }
+    {
+        match self {
+            Why::AlreadyOpened => 51,
+            Why::NotOpened => 52,
+            Why::Spoilt => 53,
+            Why::Closed => 54,
+            Why::TooFewCounts => 55,
+            Why::TooDeep => 56,
+            Why::TooFewSteps => 57,
+            Why::NoAnchor(_) => 58,
+            Why::Sink { .. } => 59,
+        }
+    }
+}
+
+// The refusal in words.
+impl fmt::Display for Why {
+    fn fmt<W: fmt::Write>(&self, f: &mut fmt::Formatter<W>) -> fmt::Result {
+        f.write_str(match self {
+            Why::AlreadyOpened => "the stream is open already",
+            Why::NotOpened => "the stream was never opened",
+            Why::Spoilt => "a document that began was not written whole",
+            Why::Closed => "the stream is closed",
+            Why::TooFewCounts => "the counting table has fewer entries than the document has nodes",
+            Why::TooDeep => "more than 256 collections would be open at once",
+            Why::TooFewSteps => "the step table has fewer entries than the walk has steps",
+            Why::NoAnchor(_) => "the node is shared below the root, where nodes get no anchor",
+            Why::Sink { .. } => "the output did not take an event",
+        })
+    }
+}
+
+impl Error for Why {}
 
 // A refusal, with the number of events that were taken before it.
 #[derive(Clone, Copy, PartialEq, Eq, Debug)]
@@ -35,45 +75,11 @@ pub struct Refused {
     pub why: Why,
 }
 
-// An event of a node that the sink did not take.
-#[derive(Clone, Copy)]
-pub(crate) struct Cut {
-    pub node: u32,
-    pub refusal: Refusal,
-}
+// A refusal before the sink is asked.
+impl From<Why> for Refused {
+    ghost from_gives = { Unasked };
 
-// The number of a refusal.
-pub fn why_number(why: Why) -> u8
-    ensures { result ≡ why_number (why_of why) }
-{
-    match why {
-        Why::AlreadyOpened => 51,
-        Why::NotOpened => 52,
-        Why::Spoilt => 53,
-        Why::Closed => 54,
-        Why::TooFewCounts => 55,
-        Why::TooDeep => 56,
-        Why::TooFewSteps => 57,
-        Why::NoAnchor(_) => 58,
-        Why::Sink {
-            node: _,
-            refusal: _,
-        } => 59,
-    }
-}
-
-// The answer of a call that passed its own questions.
-pub(crate) fn answer(events: usize, handed: Result<(), Cut>) -> Result<usize, Refused>
-    ensures { result ≡ answered events handed }
-{
-    match handed {
-        Ok(()) => Ok(events),
-        Err(cut) => Err(Refused {
-            events,
-            why: Why::Sink {
-                node: cut.node,
-                refusal: cut.refusal,
-            },
-        }),
+    fn from(why: Why) -> Refused {
+        Refused { events: 0, why }
     }
 }

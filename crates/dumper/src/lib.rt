@@ -2,10 +2,9 @@
 #![tactic(auto)]
 
 pub mod answer;
-mod hand;
-mod node;
-mod steps;
+mod event;
+mod outlet;
 pub mod writer;
 
-pub use answer::{Refused, Why, why_number};
+pub use answer::{Refused, Why};
 pub use writer::Writer;

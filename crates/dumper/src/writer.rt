@@ -1,14 +1,20 @@
 // The writer of Documents over a sink.
+ghost use Rattle.std.specs.Prelude.{◌≡◌};
+
+use crate::outlet::Outlet;
+use yaml::Sink;
+
 mod calls;
 mod inner;
 
 // It is opened once its stream start is taken, closed once its stream end is, and spoilt where a document that began never ended.
 #[derive(Drop)]
-pub struct Writer<S> {
-    sink: S,
+pub struct Writer<S: Sink> {
+    outlet: Outlet<S>,
     opened: bool,
     closed: bool,
     spoilt: bool,
-    // the last anchor's number while a Document is planned; 0 between calls
+    // the last anchor's number while a Document is planned
     last_anchor_id: u32,
+    ghost rests: { last_anchor_id ≡ 0 },
 }

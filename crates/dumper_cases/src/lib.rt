@@ -2,7 +2,7 @@
 #![tactic(auto)]
 
 use document::Node;
-use dumper::{Refused, why_number};
+use dumper::Refused;
 use tables::Empty;
 
 // Both tags and a value.
@@ -10,33 +10,32 @@ pub const TEXT: &[u8] = b"tag:yaml.org,2002:seqtag:yaml.org,2002:stra";
 
 // A sequence with that many links from a place on.
 pub fn sequence(first_link: u32, link_count: u32) -> Node {
-    let mut node = <Node as Empty>::none();
-    node.kind = 2;
-    node.style = 1;
-    node.tag_length = 21;
-    node.first_link = first_link;
-    node.link_count = link_count;
-    node
+    Node {
+        kind: 2,
+        style: 1,
+        tag_length: 21,
+        first_link,
+        link_count,
+        ..<Node as Empty>::none()
+    }
 }
 
 // The scalar `a`.
 pub fn scalar() -> Node {
-    let mut node = <Node as Empty>::none();
-    node.kind = 1;
-    node.style = 1;
-    node.tag_start = 21;
-    node.tag_length = 21;
-    node.value_start = 42;
-    node.value_length = 1;
-    node
+    Node {
+        kind: 1,
+        style: 1,
+        tag_start: 21,
+        tag_length: 21,
+        value_start: 42,
+        value_length: 1,
+        ..<Node as Empty>::none()
+    }
 }
 
-// How many events were taken, and the number of the refusal, or 0.
-pub fn told(answer: Result<usize, Refused>) -> (usize, u8) {
-    match answer {
-        Ok(events) => (events, 0),
-        Err(refused) => (refused.events, why_number(refused.why)),
-    }
+// How many events were taken, and where the call was refused the refusal's number too.
+pub fn told(answer: Result<usize, Refused>) -> Result<usize, (usize, u8)> {
+    answer.map_err(|refused| (refused.events, refused.why.number()))
 }
 
 #[cfg(test)]
@@ -80,9 +79,9 @@ mod calls {
         let mut lines = LineWriter::new(&mut out);
         let mut writer = Writer::new(&mut lines);
         let d = document(&nodes, &links, 2, true);
-        assert_eq!(rt; told(writer.dump(d, &mut counting, &mut steps)), (7, 0));
-        assert_eq!(rt; told(writer.close()), (1, 0));
-        assert_eq!(rt; told(writer.close()), (0, 0));
+        assert_eq!(rt; told(writer.dump(d, &mut counting, &mut steps)), Ok(7));
+        assert_eq!(rt; told(writer.close()), Ok(1));
+        assert_eq!(rt; told(writer.close()), Ok(0));
         assert_eq!(rt; steps[0], <Step as Empty>::none());
         assert_eq!(rt; counting[1], <Counted as Empty>::none());
         assert!(rt; lines.finish() == SHARED);
@@ -100,7 +99,7 @@ mod calls {
         let mut writer = Writer::new(&mut lines);
         let _ = writer.open();
         let d = document(&nodes, &links, 1, false);
-        assert_eq!(rt; told(writer.dump(d, &mut counting, &mut steps)), (5, 0));
+        assert_eq!(rt; told(writer.dump(d, &mut counting, &mut steps)), Ok(5));
     }
 
     #[test]
@@ -108,10 +107,10 @@ mod calls {
         let mut out = [0; 300];
         let mut lines = LineWriter::new(&mut out);
         let mut writer = Writer::new(&mut lines);
-        assert_eq!(rt; told(writer.close()), (0, 52));
-        assert_eq!(rt; told(writer.open()), (1, 0));
-        assert_eq!(rt; told(writer.open()), (0, 51));
-        assert_eq!(rt; told(writer.close()), (1, 0));
+        assert_eq!(rt; told(writer.close()), Err((0, 52)));
+        assert_eq!(rt; told(writer.open()), Ok(1));
+        assert_eq!(rt; told(writer.open()), Err((0, 51)));
+        assert_eq!(rt; told(writer.close()), Ok(1));
     }
 
     // two sequences that share a scalar below the root
@@ -143,14 +142,17 @@ mod calls {
         let mut writer = Writer::new(&mut lines);
         assert_eq!(rt;
             told(writer.dump(Document::empty(), &mut [], &mut [])),
-            (2, 0)
+            Ok(2)
         );
         assert_eq!(rt;
             told(writer.dump(Document::empty(), &mut [], &mut [])),
-            (0, 0)
+            Ok(0)
         );
         let d = document(&nodes, &[], 1, false);
-        assert_eq!(rt; told(writer.dump(d, &mut counting, &mut steps)), (0, 54));
+        assert_eq!(rt;
+            told(writer.dump(d, &mut counting, &mut steps)),
+            Err((0, 54))
+        );
     }
 
     // a sink that is full after the document's start
@@ -173,8 +175,8 @@ mod calls {
         assert!(rt; writer.dump(d, &mut counting, &mut steps) == Err(refused));
         assert_eq!(rt;
             told(writer.dump(Document::empty(), &mut [], &mut [])),
-            (0, 53)
+            Err((0, 53))
         );
-        assert_eq!(rt; told(writer.close()), (0, 53));
+        assert_eq!(rt; told(writer.close()), Err((0, 53)));
     }
 }

@@ -2,7 +2,7 @@
 use crate::words::{dump_words, load_words, refusal_words};
 use composer::refusal::{refusal_mark, refusal_number};
 use document::Refusal as StandRefusal;
-use dumper::{Refused, Why, why_number};
+use dumper::{Refused, Why};
 use loader::Refusal;
 use std::alloc::{AllocError, Global};
 use yaml::event::cause_number;
@@ -56,7 +56,7 @@ pub fn stand_line(heap: Global, refusal: StandRefusal) -> Result<String, AllocEr
 
 // The line for a call of the writer that was refused, after so many documents were written whole.
 pub fn dump_line(heap: Global, refused: Refused, documents: usize) -> Result<String, AllocError> {
-    let number = why_number(refused.why);
+    let number = refused.why.number();
     let why = dump_words(refused.why);
     let events = refused.events;
     let document = documents.saturating_add(1);

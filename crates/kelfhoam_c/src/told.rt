@@ -4,7 +4,7 @@ ghost use Rattle.document.specs.Empty.{zero_mark};
 ghost use Rattle.kelfhoam_c.specs.Told.{flag_of, load_number, first_mark, fault_in, place_in, no_load, loaded_told, refused_told, load_told, node_in, size_in, space_in, accepted_told, declined_told, called_told, no_document_told};
 
 use composer::{refusal_mark, refusal_number};
-use dumper::{Refused, Why, why_number};
+use dumper::{Refused, Why};
 use loader::{Loaded, Refusal};
 use model::Mark;
 use yaml::event::cause_number;
@@ -242,7 +242,7 @@ pub fn tell_call_refused(refused: Refused) -> CallTold
     ensures { result ≡ declined_told refused }
 {
     CallTold {
-        refusal: why_number(refused.why) as u64,
+        refusal: refused.why.number() as u64,
         events: refused.events as u64,
         node: node_in(refused.why),
         size: size_in(refused.why),

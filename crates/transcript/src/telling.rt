@@ -3,7 +3,7 @@ use crate::words::{put, put_mark, put_number, put_spaced, put_text};
 use composer::{Tables, refusal_mark, refusal_number};
 use document::limits::MAX_NODES;
 use document::{Document, Handed, NodeKind};
-use dumper::{Refused, Why, Writer, why_number};
+use dumper::{Refused, Why, Writer};
 use lines::LineWriter;
 use loader::{Loaded, Loader, Refusal};
 use packed::PackedReader;
@@ -100,7 +100,7 @@ fn tell_refusal(out: &mut Vec<u8>, refusal: Refusal) -> Result<(), AllocError> {
 // A call of the writer was refused.
 fn tell_why(out: &mut Vec<u8>, refused: Refused) -> Result<(), AllocError> {
     put(out, b"not dumped")?;
-    put_spaced(out, why_number(refused.why) as u64)?;
+    put_spaced(out, refused.why.number() as u64)?;
     if let Why::NoAnchor(node) = refused.why {
         put(out, b" node")?;
         put_spaced(out, node as u64)?;

@@ -8,7 +8,8 @@ ghost use Rattle.dumper.specs.States.{state_of};
 ghost use Rattle.dumper.specs.Calls.{Made, LawFrom, handed, Told, Rests};
 
 use super::Writer;
-use crate::answer::{Refused, Why, answer};
+use crate::answer::{Refused, Why};
+use crate::outlet::Outlet;
 use document::Document;
 use walk::{Counted, Step, Unplanned, clear_plan, make_plan};
 use yaml::Sink;
@@ -21,7 +22,7 @@ impl<S: Sink> Writer<S> {
         ensures law { LawFrom S.Sink.weight (state_of S.Sink.view result) }
     {
         Writer {
-            sink,
+            outlet: Outlet::new(sink),
             opened: false,
             closed: false,
             spoilt: false,
@@ -33,7 +34,7 @@ impl<S: Sink> Writer<S> {
     pub fn space(&self) -> usize
         ensures { result ≡ (state_of S.Sink.view self.now).room }
     {
-        S::space(&self.sink)
+        self.outlet.space()
     }
 
     // Starts the stream; answers with the number of events taken.
@@ -42,15 +43,11 @@ impl<S: Sink> Writer<S> {
         ensures rests { Rests self.old.last_anchor_id self.new.last_anchor_id }
     {
         if self.opened {
-            return Err(Refused {
-                events: 0,
-                why: Why::AlreadyOpened,
-            });
+            return Err(Why::AlreadyOpened.into());
         }
-        let _space = S::space(&self.sink);
-        let mut events = 0;
-        let handed = self.start(&mut events);
-        answer(events, handed)
+        self.outlet.count_anew();
+        self.start()?;
+        Ok(self.outlet.events())
     }
 
     // Ends the stream; again and again is fine.
@@ -59,21 +56,14 @@ impl<S: Sink> Writer<S> {
         ensures rests { Rests self.old.last_anchor_id self.new.last_anchor_id }
     {
         if !self.opened {
-            return Err(Refused {
-                events: 0,
-                why: Why::NotOpened,
-            });
+            return Err(Why::NotOpened.into());
         }
         if self.spoilt {
-            return Err(Refused {
-                events: 0,
-                why: Why::Spoilt,
-            });
+            return Err(Why::Spoilt.into());
         }
-        let _space = S::space(&self.sink);
-        let mut events = 0;
-        let handed = self.finish(&mut events);
-        answer(events, handed)
+        self.outlet.count_anew();
+        self.finish()?;
+        Ok(self.outlet.events())
     }
 
     // Writes a Document, which is used up. One without nodes starts and ends the stream. Both tables are empty afterwards.
@@ -103,53 +93,23 @@ impl<S: Sink> Writer<S> {
     ) -> Result<usize, Refused>
         ensures called { Called S.Sink.weight (dumping (handed (book_of d.now) (length counting.old) (length steps.old))) (state_of S.Sink.view self.old) (answer_of result) (state_of S.Sink.view self.new) }
         ensures told { Told (book_of d.now) result }
-        ensures rests { Rests self.old.last_anchor_id self.new.last_anchor_id }
     {
         if self.spoilt {
-            return Err(Refused {
-                events: 0,
-                why: Why::Spoilt,
-            });
+            return Err(Why::Spoilt.into());
         }
-        let _space = S::space(&self.sink);
-        let mut events = 0;
-        if d.len() == 0 {
-            let handed = self.write_nothing(&mut events);
-            return answer(events, handed);
-        }
-        if self.closed {
-            return Err(Refused {
-                events: 0,
-                why: Why::Closed,
-            });
+        if self.closed && d.len() > 0 {
+            return Err(Why::Closed.into());
         }
         d.sound();
-        let plan = make_plan(d, counting, steps, &mut self.last_anchor_id);
-        match plan {
-            Err(why) => match why {
-                // there are nodes
-                Unplanned::NoNodes => Ok(0),
-                Unplanned::TooFewCounts => Err(Refused {
-                    events: 0,
-                    why: Why::TooFewCounts,
-                }),
-                Unplanned::TooDeep => Err(Refused {
-                    events: 0,
-                    why: Why::TooDeep,
-                }),
-                Unplanned::TooFewSteps => Err(Refused {
-                    events: 0,
-                    why: Why::TooFewSteps,
-                }),
-                Unplanned::NoAnchor(node) => Err(Refused {
-                    events: 0,
-                    why: Why::NoAnchor(node),
-                }),
-            },
-            Ok(count) => {
-                let handed = self.write(&mut events, d, counting, &steps[0..count]);
-                answer(events, handed)
-            }
+        self.outlet.count_anew();
+        match make_plan(d, counting, steps, &mut self.last_anchor_id) {
+            Ok(count) => self.write(d, counting, &steps[..count])?,
+            Err(Unplanned::NoNodes) => self.write_nothing()?,
+            Err(Unplanned::TooFewCounts) => return Err(Why::TooFewCounts.into()),
+            Err(Unplanned::TooDeep) => return Err(Why::TooDeep.into()),
+            Err(Unplanned::TooFewSteps) => return Err(Why::TooFewSteps.into()),
+            Err(Unplanned::NoAnchor(node)) => return Err(Why::NoAnchor(node).into()),
         }
+        Ok(self.outlet.events())
     }
 }

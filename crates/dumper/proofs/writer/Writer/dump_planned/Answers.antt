@@ -1,67 +1,83 @@
-use Rattle.std.proofs.Common.{◌≡◌, length, sym, refl, ◌∙◌, subst, arith}
+use Rattle.std.proofs.Common.{◌≡◌, false, length, Err, sym, refl, ap, ◌∙◌, subst, arith}
+use Rattle.std.proofs.lemmas.List.{nil_from_length}
+use Rattle.std.proofs.lemmas.Result.{err_from_is_err_and}
 use Rattle.document.specs.Books.{book_of}
-use Rattle.runs.specs.Writer.{dumping, Called}
+use Rattle.runs.specs.Writer.{dumping, empty, accepted, Called}
+use Rattle.runs.proofs.Answering.{empty_passes}
 use Rattle.dumper.specs.Answers.{answer_of}
-use Rattle.dumper.specs.States.{state_of}
-use Rattle.dumper.specs.Calls.{handed, Told}
-use Rattle.dumper.proofs.Calling.{called_by, told_answered, passes_empty, wants_nothing, fails_anchors, told_unnamed, passes_planned, wants_planned, planned_allowed}
+use Rattle.dumper.specs.States.{state_by, state_of}
+use Rattle.dumper.specs.Calls.{handed}
+use Rattle.dumper.proofs.Calling.{called_well, called_short, fails_anchors, passes_planned, wants_planned, planned_allowed}
+use Rattle.dumper.proofs.Going.{went_of}
+use Rattle.dumper.proofs.writer.Writer.dump_planned.Goals.{else-self-2-via-then-self-2+else-len-gt0, else-self-2-via-else-self-2, in-Ok+in_ok-write-in-Ok, in-Err-NoNodes+in_ok-write_nothing-in-Err-NoNodes}
 use Rattle.dumper.proofs.writer.Writer.dump_planned.Goals as goal
 
-pub returns-then-len-eq0 : goal.returns-then-len-eq0
-returns-then-len-eq0 g c =
-    let b = book_of c.args.d.now in
-    let h = handed b (length c.args.counting.now) (length c.args.steps.now) in
-    let s = state_of g.S.Sink.view c.args.self.now in
-    let t = state_of g.S.Sink.view c.write_nothing-handed.new.self in
-    let none : length b.nodes ≡ 0 = sym c.len.ensures ∙ c.if-len-eq0.true in
-    record {
-      called = subst (λ r. Called g.S.Sink.weight (dumping h) s (answer_of r) t) (sym c.answer.ensures)
-          (called_by g.S.Sink.weight (dumping h) s _ c.write_nothing-handed.result t c.write_nothing-handed.new.events
-          (passes_empty s h none c.if-self.false) (wants_nothing s h none) c.write_nothing-handed.ensures.goes);
-      told = subst (Told b) (sym c.answer.ensures) (told_answered b c.write_nothing-handed.new.events c.write_nothing-handed.result);
-      rests = λ e. c.write_nothing-handed.ensures.rests ∙ e;
-    }
-
-pub write-handed-requires : goal.write-handed-requires
-write-handed-requires g c =
-    let b = book_of c.args.d.now in
-    let h = handed b (length c.args.counting.now) (length c.args.steps.now) in
-    let s = state_of g.S.Sink.view c.args.self.now in
-    let plan = c.in-Ok.ensures.plan in
-    record {
-      unspoilt = c.if-self.false;
-      numbers = record { anchors = plan.anchors_hold; few = plan.anchors_few };
-      allowed = planned_allowed s h c.args.steps.now c.in-Ok.count c.make_plan-plan.new.counting c.make_plan-plan.new.steps plan c.sound.ensures;
-      few = omega (arith, c.space-space.ensures);
-    }
-
-pub returns-in-NoAnchor : goal.returns-in-NoAnchor
-returns-in-NoAnchor g c =
+pub write-requires-clause-allowed : goal.write-requires-clause-allowed
+write-requires-clause-allowed g c =
     let h = handed (book_of c.args.d.now) (length c.args.counting.now) (length c.args.steps.now) in
-    let s = state_of g.S.Sink.view c.args.self.now in
-    let plan = rw c.in-NoAnchor.is at c.in-Err.ensures.plan in
-    record {
-      called = record { failed = fails_anchors s h c.in-NoAnchor.node c.if-self.false c.if-self-2.false plan; none_taken = refl; same = refl };
-      told = told_unnamed s h c.in-NoAnchor.node plan;
-      rests = λ _. c.in-Err.ensures.counter;
-    }
+    planned_allowed (state_of g.S.Sink.view c.args.self.now) h c.args.steps.now c.in-Ok.count c.make_plan.new.counting c.make_plan.new.steps c.in-Ok.ensures.plan c.sound.ensures
 
-pub returns-in-Ok : goal.returns-in-Ok
-returns-in-Ok g c =
-    let b = book_of c.args.d.now in
-    let h = handed b (length c.args.counting.now) (length c.args.steps.now) in
-    let s = state_of g.S.Sink.view c.args.self.now in
-    let t = state_of g.S.Sink.view c.write-handed.new.self in
+pub returns-in_err-write-in-Ok-clause-called : goal.returns-in_err-write-in-Ok-clause-called
+returns-in_err-write-in-Ok-clause-called g c =
+    let self = c.args.self.now in
+    let s = state_of g.S.Sink.view self in
+    let h = handed (book_of c.args.d.now) (length c.args.counting.now) (length c.args.steps.now) in
+    let same = ap (λ k. state_by self.opened self.closed self.spoilt (g.S.Sink.view k)) c.count_anew.ensures.sink in
     let plan = c.in-Ok.ensures.plan in
-    let count = c.in-Ok.count in
-    let table = c.make_plan-plan.new.counting in
-    let held = c.make_plan-plan.new.steps in
-    record {
-      called = subst (λ r. Called g.S.Sink.weight (dumping h) s (answer_of r) t) (sym c.answer-in-Ok.ensures)
-          (called_by g.S.Sink.weight (dumping h) s _ c.write-handed.result t c.write-handed.new.events
-          (passes_planned s h c.args.steps.now count table held plan c.if-self.false c.if-self-2.false refl)
-          (wants_planned s h c.args.steps.now count table held plan)
-          c.write-handed.ensures.goes);
-      told = subst (Told b) (sym c.answer-in-Ok.ensures) (told_answered b c.write-handed.new.events c.write-handed.result);
-      rests = λ _. c.write-handed.ensures.rests ∙ c.in-Ok.ensures.counter;
-    }
+    let still : self.closed ≡ false = elim c.else-self-2.branch [
+      | else-self-2-via-then-self-2+else-len-gt0 w ↦ absurd (omega (arith, w.len.ensures, w.if-len-gt0.false, plan.enough.some))
+      | else-self-2-via-else-self-2 w ↦ w.if-self-2.false
+    ] in
+    called_short g.S.Sink.weight (dumping h) _ same c.count_anew.ensures.none
+    (passes_planned s h c.args.steps.now c.in-Ok.count c.make_plan.new.counting c.make_plan.new.steps plan c.if-self.false still refl)
+    (wants_planned s h c.args.steps.now c.in-Ok.count c.make_plan.new.counting c.make_plan.new.steps plan)
+    (err_from_is_err_and c.from_residual.result c.from_residual.ensures.1) c.in_err-write-in-Ok.ensures
+
+pub returns-in_err-write_nothing-in-Err-NoNodes-clause-called : goal.returns-in_err-write_nothing-in-Err-NoNodes-clause-called
+returns-in_err-write_nothing-in-Err-NoNodes-clause-called g c =
+    let self = c.args.self.now in
+    let s = state_of g.S.Sink.view self in
+    let h = handed (book_of c.args.d.now) (length c.args.counting.now) (length c.args.steps.now) in
+    let same = ap (λ k. state_by self.opened self.closed self.spoilt (g.S.Sink.view k)) c.count_anew.ensures.sink in
+    let none = nil_from_length h.book.nodes (rw c.in-Err-NoNodes.field-0-is at c.in-Err-NoNodes.ensures.plan) in
+    called_short g.S.Sink.weight (dumping h) _ same c.count_anew.ensures.none (empty_passes h s none c.if-self.false) (empty none refl)
+    (err_from_is_err_and c.from_residual-in_err-write_nothing-in-Err-NoNodes.result c.from_residual-in_err-write_nothing-in-Err-NoNodes.ensures.1) c.in_err-write_nothing-in-Err-NoNodes.ensures
+
+pub returns-in-Err-NoAnchor-clause-called : goal.returns-in-Err-NoAnchor-clause-called
+returns-in-Err-NoAnchor-clause-called g c =
+    let self = c.args.self.now in
+    let s = state_of g.S.Sink.view self in
+    let h = handed (book_of c.args.d.now) (length c.args.counting.now) (length c.args.steps.now) in
+    let same = ap (λ k. state_by self.opened self.closed self.spoilt (g.S.Sink.view k)) c.count_anew.ensures.sink in
+    let plan = rw c.in-Err-NoAnchor.field-0-is at c.in-Err-NoAnchor.ensures.plan in
+    let still : self.closed ≡ false = elim c.else-self-2.branch [
+      | else-self-2-via-then-self-2+else-len-gt0 w ↦ absurd (omega (arith, w.len.ensures, w.if-len-gt0.false, plan.enough.some))
+      | else-self-2-via-else-self-2 w ↦ w.if-self-2.false
+    ] in
+    subst (λ f. Called g.S.Sink.weight (dumping h) s (answer_of (Err f)) (state_by self.opened self.closed self.spoilt (g.S.Sink.view c.count_anew.new.self.sink))) (sym c.into-in-Err-NoAnchor.ensures)
+    (record { failed = fails_anchors s h c.in-Err-NoAnchor.node c.if-self.false still plan; none_taken = refl; same = same })
+
+pub returns-clause-called : goal.returns-clause-called
+returns-clause-called g c =
+    let self = c.args.self.now in
+    let s = state_of g.S.Sink.view self in
+    let h = handed (book_of c.args.d.now) (length c.args.counting.now) (length c.args.steps.now) in
+    let same = ap (λ k. state_by self.opened self.closed self.spoilt (g.S.Sink.view k)) c.count_anew.ensures.sink in
+    elim c.match-make_plan.branch [
+      | in-Ok+in_ok-write-in-Ok w ↦
+          let plan = w.in-Ok.ensures.plan in
+          let still : self.closed ≡ false = elim c.else-self-2.branch [
+            | else-self-2-via-then-self-2+else-len-gt0 w ↦ absurd (omega (arith, w.len.ensures, w.if-len-gt0.false, plan.enough.some))
+            | else-self-2-via-else-self-2 w ↦ w.if-self-2.false
+          ] in
+          subst (λ v. Called g.S.Sink.weight (dumping h) s (accepted c.events.result) (state_of g.S.Sink.view v)) (sym w.self-is)
+          (called_well g.S.Sink.weight (dumping h) _ same c.count_anew.ensures.none
+          (passes_planned s h c.args.steps.now w.in-Ok.count c.make_plan.new.counting c.make_plan.new.steps plan c.if-self.false still refl)
+          (wants_planned s h c.args.steps.now w.in-Ok.count c.make_plan.new.counting c.make_plan.new.steps plan)
+          (c.events.ensures ∙ ap (λ v. v.outlet.events) w.self-is) (went_of w.in_ok-write-in-Ok.ensures))
+      | in-Err-NoNodes+in_ok-write_nothing-in-Err-NoNodes w ↦
+          let none = nil_from_length h.book.nodes (rw w.in-Err-NoNodes.field-0-is at w.in-Err-NoNodes.ensures.plan) in
+          subst (λ v. Called g.S.Sink.weight (dumping h) s (accepted c.events.result) (state_of g.S.Sink.view v)) (sym w.self-is)
+          (called_well g.S.Sink.weight (dumping h) _ same c.count_anew.ensures.none (empty_passes h s none c.if-self.false) (empty none refl)
+          (c.events.ensures ∙ ap (λ v. v.outlet.events) w.self-is) (went_of w.in_ok-write_nothing-in-Err-NoNodes.ensures))
+    ]

@@ -1,4 +1,4 @@
-use Rattle.std.proofs.Common.{[], ◌∷◌, refl, ap}
+use Rattle.std.proofs.Common.{[], ◌∷◌, ap}
 use Rattle.std.proofs.lemmas.Result.{err_from_is_err_and}
 use Rattle.runs.specs.Writer.{due_of}
 use Rattle.dumper.proofs.Handed.{hands_as}
@@ -8,9 +8,6 @@ use Rattle.dumper.proofs.writer.Writer.finish.Goals as goal
 pub returns-in_err-hand : goal.returns-in_err-hand
 returns-in_err-hand g c =
     let self = c.args.self.now in
-    record {
-      goes = goes_left (err_from_is_err_and c.from_residual.result c.from_residual.ensures.1)
-          (goes_as (end_is self.closed c.if-self.false)
-          (one_cut self.opened self.closed self.spoilt (hands_as (ap (λ e. due_of 0 e ∷ []) c.plain-event.ensures) c.in_err-hand.ensures)));
-      rests = refl;
-    }
+    goes_left (err_from_is_err_and c.from_residual.result c.from_residual.ensures.1)
+    (goes_as (end_is self.closed c.if-not-self.true)
+    (one_cut self.opened self.closed self.spoilt (hands_as (ap (λ e. due_of 0 e ∷ []) c.plain.ensures) c.in_err-hand.ensures)))

@@ -1,4 +1,4 @@
-use Rattle.std.proofs.Common.{ap, ◌∙◌}
+use Rattle.std.proofs.Common.{ap}
 use Rattle.std.proofs.lemmas.Result.{err_from_is_err_and}
 use Rattle.runs.specs.Writer.{end_due}
 use Rattle.dumper.proofs.Going.{goes_left, goes_as, goes_before, goes_then, went_of, start_no_document, still_closed}
@@ -6,15 +6,9 @@ use Rattle.dumper.proofs.writer.Writer.write_nothing.Goals as goal
 
 pub returns-in_err-start : goal.returns-in_err-start
 returns-in_err-start g c =
-    record {
-      goes = goes_left (err_from_is_err_and c.from_residual.result c.from_residual.ensures.1) (goes_before (end_due c.args.self.now.closed) c.in_err-start.ensures.goes);
-      rests = c.in_err-start.ensures.rests;
-    }
+    goes_left (err_from_is_err_and c.from_residual.result c.from_residual.ensures.1) (goes_before (end_due c.args.self.now.closed) c.in_err-start.ensures)
 
 pub returns : goal.returns
 returns g c =
-    let first = went_of c.in_ok-start.ensures.goes in
-    record {
-      goes = goes_then first (start_no_document c.args.self.now.opened) (goes_as (ap end_due (still_closed c.args.self.now.opened first.took)) c.finish.ensures.goes);
-      rests = c.finish.ensures.rests ∙ c.in_ok-start.ensures.rests;
-    }
+    let first = went_of c.in_ok-start.ensures in
+    goes_then first (start_no_document c.args.self.now.opened) (goes_as (ap end_due (still_closed c.args.self.now.opened first.took)) c.finish.ensures)
