@@ -1,2 +1,0 @@
-pub mod Nine
-pub mod Inner

@@ -1,13 +1,9 @@
-use Rattle.std.proofs.Common.{sym, refl, arith}
+use Rattle.std.proofs.Common.{sym, arith}
 use Rattle.model.specs.Reading.{read_all}
 use Rattle.model.proofs.Readings.{whole_written, no_fault}
-use Rattle.yaml.proofs.Gives.{all_comes}
 use Rattle.packed.specs.Packed.{packed_front}
 use Rattle.packed.specs.Lawful.{packed_format}
 use Rattle.packed.proofs.reader.PackedReader.new.Goals as goal
 
-pub returns : goal.returns
-returns c = record {
-  made = record { fresh = refl; all = all_comes packed_front c.args.bytes.now c.new.result c.new.ensures };
-  written_back = λ whole. sym (whole_written packed_format 0 0 0 c.args.bytes.now (omega arith) (no_fault (read_all packed_front c.args.bytes.now).after whole));
-}
+pub returns-clause-written_back : goal.returns-clause-written_back
+returns-clause-written_back c = λ whole. sym (whole_written packed_format 0 0 0 c.args.bytes.now (omega arith) (no_fault (read_all packed_front c.args.bytes.now).after whole))
