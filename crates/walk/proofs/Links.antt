@@ -32,9 +32,6 @@ next_link g ws i h lt =
     let there : nth (root_links g) i ≡ Some (get_or ws i 0) = ap (λ (xs : List ℕ). nth xs i) (sym (h.links ∙ root_is g)) ∙ nth_at ws i 0 lt in
     drop_nth (root_links g) i (get_or ws i 0) there ∙ ap (λ k. get_or ws i 0 ∷ drop k (root_links g)) s
 
-pub no_link : (g : List Vertex) (ws : List ℕ) (i : ℕ) → HasLinks g 1 ws → length ws ≤ i → drop i (root_links g) ≡ []
-no_link g ws i h past = drop_all i (root_links g) (omega (arith, ap length (h.links ∙ root_is g)))
-
 -- links cut into pairs
 pair_at : (n i : ℕ) (ws : List ℕ) → i < n → get_or (first_chunks 2 n ws) i [] ≡ take 2 (drop (2 * i) ws)
 pair_at zero i ws lt = absurd (omega arith)

@@ -9,17 +9,6 @@ use Rattle.serial.proofs.Among.{numbered_there}
 use Rattle.walk.specs.Looks.{links_at, Inside, HasLinks}
 use Rattle.walk.proofs.Sounds.{links_few, vertex_at_lem}
 
-pub is_there : {Y : Type 0} (g : List Vertex) (v : ℕ) (f : Vertex → Y) (o : Option Y) → Inside g v → o ≡ given f (numbered g v) → IsSome o
-is_there g v f (Some y) in_g e = refl
-is_there g v f None in_g e =
-    let x = numbered_there g v in_g.low in_g.high in
-    let is : given f (numbered g v) ≡ Some (f x.0) = ap (given f) x.1 in
-    let z : ◌≡◌ {A = ℕ} 0 1 = cc in absurd (omega arith)
-
-pub is_seen : {Y : Type 0} (g : List Vertex) (v : ℕ) (f : Vertex → Y) (o : Option (Bor Y)) → Inside g v → seen o ≡ given f (numbered g v) → IsSome o
-is_seen g v f (Some y) in_g e = refl
-is_seen g v f None in_g e = is_there g v f None in_g e
-
 at_there : {X : Type 0} (P : X → Type 0) (d : X) (xs : List X) (i : ℕ) → AllByRecursion P xs → i < length xs → P (get_or xs i d)
 at_there P d [] i all lt = absurd (omega arith)
 at_there P d (x ∷ xs) zero all lt = all.0

@@ -157,15 +157,6 @@ so_far_none g t last r =
       onward = ap (λ (xs : List ℕ). seconds_after [] xs) (sym (references_are g r.some));
     }
 
-pub so_far_all : (g : List Vertex) (i : ℕ) (t : List Counted) (last : ℕ) (rest : List ℕ) → rest ≡ [] → SoFar g rest i t last → Numbered g t last
-so_far_all g i t last rest none s =
-    let all : s.secs ≡ seconds g = sym (append-nil s.secs) ∙ ap (λ (xs : List ℕ). s.secs ++ seconds_after s.before xs) (sym none) ∙ s.onward in
-    record {
-      anchors = λ v. s.anchors v ∙ ap (λ (xs : List ℕ). place_from 1 v xs) all;
-      unmet = s.unmet;
-      last_is = s.last_is ∙ ap length all;
-    }
-
 -- the next reference can be counted
 pub countable : (g : List Vertex) (rest : List ℕ) (i : ℕ) (t : List Counted) (last v : ℕ) → SoFar g rest i t last → 1 ≤ v → v ≤ length t → i ≤ 16384 + 1 → Countable t last v
 countable g rest i t last v s low high few =

@@ -24,7 +24,3 @@ entry_other t (suc k) (suc i) c apart = get_or-set_other t k i c empty_counted (
 pub length_replaced : (t : List Counted) (v : ℕ) (c : Counted) → length (replaced t v c) ≡ length t
 length_replaced t zero c = refl
 length_replaced t (suc k) c = length-set t k c
-
-pub entry_past : (t : List Counted) (v : ℕ) → length t < v → entry_at t v ≡ empty_counted
-entry_past t zero past = refl
-entry_past t (suc k) past = get_or_past t k empty_counted (omega arith)

@@ -18,19 +18,13 @@ use Rattle.serial.proofs.Exists.{walk_exists}
 use Rattle.serial.proofs.Anchors.{seconds_few, anchors_apart}
 use Rattle.walk.specs.declared.entry.Counted.{Counted}
 use Rattle.walk.specs.declared.entry.Step.{Step}
+use Rattle.walk.specs.declared.limits.TheConstants.{MAX_STEPS}
 use Rattle.walk.specs.Entries.{empty_counted, made, entry_at}
 use Rattle.walk.specs.Going.{step_of, puts, state, Marks, WentFrom, Went, NoWay, CanVisit}
 use Rattle.walk.specs.Plans.{lacks, first_lacking, AllNamed, FirstUnnamed, TheWalk, Deep, FewSteps, Unnamed, ReadyToWrite, Prepared}
-use Rattle.walk.proofs.Sounds.{sound, sound_graph}
+use Rattle.walk.proofs.Sounds.{steps_few, sound, sound_graph}
 use Rattle.walk.proofs.Within.{place_few, named_some, all_inside}
-use Rattle.walk.proofs.Marking.{unmet_when}
-
--- a cleared table
-pub entry_cleared : (t : List Counted) (n : ℕ) → t ≡ replicate n empty_counted → (v : ℕ) → entry_at t v ≡ empty_counted
-entry_cleared t n e zero = refl
-entry_cleared t n e (suc k) =
-    ap (λ (u : List Counted). get_or u k empty_counted) e
-    ∙ ⊎_elim (λ lt. get_or-replicate n k empty_counted empty_counted lt) (λ past. get_or_past (replicate n empty_counted) k empty_counted (omega (arith, length-replicate n empty_counted))) (cases_lt k n)
+use Rattle.walk.proofs.Marking.{weighed_few, unmet_when}
 
 -- steps that fit the table stand at its beginning
 puts_at : (xs ys : List Step) (ts : List Token) (n : ℕ) → length xs ≡ n → length ts ≤ length ys → puts (xs ++ ys) n ts ≡ xs ++ (map step_of ts ++ drop (length ts) ys)
@@ -51,15 +45,6 @@ front_is s ts = take_at (map step_of ts) (drop (length ts) s) (length ts) (lengt
 -- the walk from the root
 pub no_mark : (t : List Counted) → ((v : ℕ) → (entry_at t v).serialized ≡ 0) → Marks t []
 no_mark t unmet v = unmet_when t v (unmet v)
-
-pub can_begin : (g : List Vertex) (t : List Counted) (s : List Step) → Prepared g t → CanVisit g 0 1 (state t s 0)
-can_begin g t s p =
-    record {
-      inside = record { low = omega arith; high = p.enough.some };
-      room = p.enough.room;
-      depth_fits = omega arith;
-      few = omega arith;
-    }
 
 the_walk : (b : Book) (ts : List Token) (seen : List ℕ) → SoundBook b → 1 ≤ length b.nodes → Walk b.nodes 256 ts seen → TheWalk b.nodes ts seen
 the_walk b ts seen s some w =
@@ -95,6 +80,10 @@ few_steps b t t' s s' n sb p w lt =
       walk = the_walk b f.tokens f.met sb p.enough.some (visit_walk f.visit);
       few = omega (arith, f.at);
     }
+
+-- no walk is longer than a table of MAX_STEPS
+pub not_too_long : (b : Book) (t t' : List Counted) (s s' : List Step) (n : ℕ) → SoundBook b → Went b.nodes 0 1 (state t s 0) (state t' s' n) → n ≤ MAX_STEPS
+not_too_long b t t' s s' n sb w = omega (arith, w.weighs, weighed_few b.nodes t', steps_few b sb)
 
 -- the anchors as the walk leaves them
 anchors_still : (g : List Vertex) (t t' : List Counted) (s s' : List Step) (n : ℕ) → Prepared g t → Went g 0 1 (state t s 0) (state t' s' n) → (v : ℕ) → (entry_at t' v).anchor ≡ number_of g v

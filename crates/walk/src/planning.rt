@@ -1,5 +1,5 @@
 // Planning how a Document is written, before anything is written: the anchors' numbers and the steps of the walk.
-ghost use Rattle.std.specs.Prelude.{◌≡◌, length, replicate};
+ghost use Rattle.std.specs.Prelude.{◌≡◌, ◌<◌, length, replicate, IsErrOf};
 ghost use Rattle.document.specs.Books.{book_of};
 ghost use Rattle.walk.specs.Entries.{entry_at, number_in, empty_counted, empty_step};
 ghost use Rattle.walk.specs.Plans.{lacks, first_lacking, Prepared, Plans, Determined};
@@ -7,6 +7,7 @@ ghost use Rattle.walk.specs.Plans.{lacks, first_lacking, Prepared, Plans, Determ
 use crate::count::anchor_node;
 use crate::dump::{TooDeep, Walk};
 use crate::entry::{Counted, Step, StepKind};
+use crate::limits::MAX_STEPS;
 use document::Document;
 use tables::clear;
 
@@ -81,7 +82,8 @@ fn plan_walk(
     steps: &mut [Step],
 ) -> Result<usize, Unplanned>
     requires { Prepared (book_of d.now).nodes counting.old }
-    ensures { Plans (book_of d.now).nodes (length counting.old) steps.old result counting.new steps.new }
+    ensures plan { Plans (book_of d.now).nodes (length counting.old) steps.old result counting.new steps.new }
+    ensures room { IsErrOf result Unplanned.TooFewSteps → length steps.old < MAX_STEPS }
 {
     d.sound();
     let mut walk = Walk {
@@ -105,7 +107,8 @@ fn plan_walk(
 }
 
 // Numbers the anchors and walks over the nodes, and answers with the number of steps. Then the tables hold the plan; else they hold anything.
-// Numbers begin at 1 whatever the counter held, and it is back at 0 in any case.
+// A table of MAX_STEPS is long enough for any walk. Numbers begin at 1 whatever the counter held, and it is back at 0 in any case.
+#[tactic(auto, using(crate::proofs::OneAnswer::determined))]
 pub fn make_plan(
     d: &Document<'_>,
     counting: &mut [Counted],
@@ -114,6 +117,7 @@ pub fn make_plan(
 ) -> Result<usize, Unplanned>
     ensures counter { last_anchor_id.new ≡ 0 }
     ensures plan { Plans (book_of d.now).nodes (length counting.old) steps.old result counting.new steps.new }
+    ensures room { IsErrOf result Unplanned.TooFewSteps → length steps.old < MAX_STEPS }
     ensures determined { Determined }
 {
     *last_anchor_id = 0;

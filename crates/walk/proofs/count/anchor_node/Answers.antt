@@ -1,7 +1,7 @@
 use Rattle.std.proofs.Common.{◌≡◌, ℕ, suc, ◌+◌, List, ◌∷◌, get_or, drop, subst, arith}
 use Rattle.document.specs.Books.{book_of}
-use Rattle.walk.proofs.Numbers.{SoFar, root_links, so_far_none, so_far_more, so_far_all, countable}
-use Rattle.walk.proofs.Links.{next_link, no_link}
+use Rattle.walk.proofs.Numbers.{SoFar, root_links, so_far_none, so_far_more, countable}
+use Rattle.walk.proofs.Links.{next_link}
 use Rattle.walk.proofs.count.anchor_node.Goals as goal
 
 pub anchor_node_sub-requires : goal.anchor_node_sub-requires
@@ -45,9 +45,3 @@ loop-child-preserved c =
     let here : SoFar g (w ∷ drop (i + 1) (root_links g)) (i + 1) t n = subst (λ (xs : List ℕ). SoFar g xs (i + 1) t n) (next_link g ws i c.links_at-child-items.ensures c.loop-child-test.true) past in
     subst (λ (k : ℕ). SoFar g (drop (i + 1) (root_links g)) k c.anchor_node_sub-in-loop-child.new.counting c.anchor_node_sub-in-loop-child.new.last_anchor_id) s
     (so_far_more g w (drop (i + 1) (root_links g)) (i + 1) t c.anchor_node_sub-in-loop-child.new.counting n c.anchor_node_sub-in-loop-child.new.last_anchor_id here can c.anchor_node_sub-in-loop-child.ensures)
-
-pub returns : goal.returns
-returns c =
-    let g = (book_of c.args.d.now).nodes in
-    so_far_all g (c.loop-child.child-index + 1) c.loop-child.counting c.loop-child.last_anchor_id (drop c.loop-child.child-index (root_links g))
-    (no_link g c.links_at-child-items.result.now c.loop-child.child-index c.links_at-child-items.ensures c.loop-child-test.false) c.loop-child.invariant

@@ -63,16 +63,6 @@ dump_sequence-step-requires t c = count_few (book_of c.args.d.now) c.args.self.n
 pub dump_sequence-loop-item-init : goal.dump_sequence-loop-item-init
 dump_sequence-loop-item-init t c = going_none (book_of c.args.d.now).nodes c.args.depth c.args.node c.step.new.self
 
-pub dump_sequence-dump_node-requires : goal.dump_sequence-dump_node-requires
-dump_sequence-dump_node-requires t c =
-    let g = (book_of c.args.d.now).nodes in
-    let ws = c.links_at-item-items.result.now in
-    let i = c.loop-item.item-index in (
-      search rules,
-      can_visit_child g Sequence c.args.depth c.args.node (state_of c.args.self.now) (state_of c.step.new.self) c.requires refl c.if-depth-ge-MAX_OPEN.false c.step.ensures.stepped
-          i (get_or ws i 0) (state_of c.loop-item.self) c.loop-item.invariant.children (link_at g c.args.node ws i c.links_at-item-items.ensures c.loop-item-test.true) c.loop-item.invariant.tables.nodes,
-    )
-
 pub dump_sequence-returns-in_err-dump_node-clause-opened : goal.dump_sequence-returns-in_err-dump_node-clause-opened
 dump_sequence-returns-in_err-dump_node-clause-opened t c =
     let g = (book_of c.args.d.now).nodes in
