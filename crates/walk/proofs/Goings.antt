@@ -7,7 +7,7 @@ use Rattle.model.specs.declared.NodeKind.TheVariants.{Scalar, Mapping}
 use Rattle.model.specs.Graph.{Vertex, Book, nth, numbered}
 use Rattle.document.specs.Sound.{SoundBook}
 use Rattle.serial.specs.Walk.{Token, first, again, leave, among, is_collection}
-use Rattle.serial.specs.Walks.{weight, sum_all, Visit, Visits, visit_again, visit_leaf, visit_into, no_visit, visit_more, IsTooDeep, deep_here, deep_below, deep_at}
+use Rattle.serial.specs.Walks.{weight, Visit, Visits, visit_again, visit_leaf, visit_into, no_visit, visit_more, IsTooDeep, deep_here, deep_below, deep_at}
 use Rattle.walk.specs.declared.entry.Counted.{Counted}
 use Rattle.walk.specs.declared.entry.Step.{Step}
 use Rattle.walk.specs.declared.entry.StepKind.TheVariants.{First, Again, Leave}

@@ -1,9 +1,8 @@
 -- What reading a Document tells of the node that a number names.
-use Rattle.std.proofs.Common.{◌≡◌, ℕ, zero, suc, ◌<◌, List, [], ◌∷◌, length, get_or, Some, None, Option, IsSome, sym, refl, ap, ◌∙◌, subst, arith}
-use Rattle.std.specs.Borrow.{Bor}
+use Rattle.std.proofs.Common.{◌≡◌, ℕ, zero, suc, ◌<◌, List, [], ◌∷◌, length, get_or, Some, sym, ap, ◌∙◌, subst, arith}
 use Rattle.std.specs.List.{AllByRecursion}
 use Rattle.model.specs.Graph.{Vertex, Book, numbered}
-use Rattle.document.specs.Reads.{seen, given, links_in}
+use Rattle.document.specs.Reads.{given, links_in}
 use Rattle.document.specs.Sound.{Names, SoundBook}
 use Rattle.serial.proofs.Among.{numbered_there}
 use Rattle.walk.specs.Looks.{links_at, Inside, HasLinks}

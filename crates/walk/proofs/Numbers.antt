@@ -1,6 +1,6 @@
 -- Counting one reference after the other gives the numbers.
 use Rattle.std.proofs.Common.{◌≡◌, ℕ, suc, ◌+◌, ◌≤◌, true, false, cond, ◌||◌, eqb, List, [], ◌∷◌, ◌++◌, length, sym, refl, ap, ◌∙◌, subst, inl, inr, ⊎_elim, arith}
-use Rattle.std.proofs.lemmas.List.{append_assoc, append-nil, length-append}
+use Rattle.std.proofs.lemmas.List.{append_assoc, length-append}
 use Rattle.std.proofs.lemmas.Bool.{cases_eq, cases_Bool, eq-eqb, ne_eqb, cond-true, cond-false, or_parts, or_from}
 use Rattle.model.specs.Graph.{Vertex}
 use Rattle.serial.specs.Walk.{among}
@@ -8,7 +8,7 @@ use Rattle.serial.specs.Numbering.{times, references, seconds_after, seconds, pl
 use Rattle.serial.proofs.Among.{among_append}
 use Rattle.walk.specs.declared.entry.Counted.{Counted}
 use Rattle.walk.specs.Entries.{entry_at}
-use Rattle.walk.specs.Counting.{bumped, Countable, Referred, Ready, Numbered}
+use Rattle.walk.specs.Counting.{bumped, Countable, Referred, Ready}
 use Rattle.walk.proofs.Places.{entry_same, entry_other}
 
 times_same : (v : ℕ) (ws : List ℕ) → times v (v ∷ ws) ≡ suc (times v ws)

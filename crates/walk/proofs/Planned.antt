@@ -1,11 +1,11 @@
 -- From the contracts of numbering and walking to the answer of planning.
-use Rattle.std.proofs.Common.{◌≡◌, ℕ, zero, suc, ◌<◌, ◌≤◌, eqb, List, [], ◌∷◌, ◌++◌, map, length, get_or, take, drop, set, replicate, Some, None, Option, sym, refl, ap, ◌∙◌, subst, inl, inr, ⊎_elim, arith}
+use Rattle.std.proofs.Common.{◌≡◌, ℕ, suc, ◌<◌, ◌≤◌, eqb, List, [], ◌∷◌, ◌++◌, map, length, take, drop, set, Some, None, Option, sym, refl, ap, ◌∙◌, subst, inl, inr, ⊎_elim, arith}
 use mathlib.Core.List.Memᴰ
 use lib.ListN.{length-map}
 use Rattle.std.specs.List.{find}
 use Rattle.std.specs.Option.{option_map}
-use Rattle.std.proofs.lemmas.List.{set_at, append_assoc, length_push, get_or-replicate, get_or_past, length-replicate, take_at}
-use Rattle.std.proofs.lemmas.Bool.{cases_lt, cases_Bool, eq-eqb, eqb-true, eqb-false, cond-true, cond-false}
+use Rattle.std.proofs.lemmas.List.{set_at, append_assoc, length_push, take_at}
+use Rattle.std.proofs.lemmas.Bool.{cases_Bool, eq-eqb, eqb-true, eqb-false, cond-true, cond-false}
 use Rattle.model.specs.Graph.{Vertex, Book}
 use Rattle.document.specs.Sound.{SoundBook}
 use Rattle.serial.specs.Walk.{Token, first, again, leave, Walk}
@@ -19,8 +19,8 @@ use Rattle.serial.proofs.Anchors.{seconds_few, anchors_apart}
 use Rattle.walk.specs.declared.entry.Counted.{Counted}
 use Rattle.walk.specs.declared.entry.Step.{Step}
 use Rattle.walk.specs.declared.limits.TheConstants.{MAX_STEPS}
-use Rattle.walk.specs.Entries.{empty_counted, made, entry_at}
-use Rattle.walk.specs.Going.{step_of, puts, state, Marks, WentFrom, Went, NoWay, CanVisit}
+use Rattle.walk.specs.Entries.{made, entry_at}
+use Rattle.walk.specs.Going.{step_of, puts, state, Marks, WentFrom, Went, NoWay}
 use Rattle.walk.specs.Plans.{lacks, first_lacking, AllNamed, FirstUnnamed, TheWalk, Deep, FewSteps, Unnamed, ReadyToWrite, Prepared}
 use Rattle.walk.proofs.Sounds.{steps_few, sound, sound_graph}
 use Rattle.walk.proofs.Within.{place_few, named_some, all_inside}

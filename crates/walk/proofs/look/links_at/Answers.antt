@@ -1,6 +1,6 @@
 use Rattle.std.proofs.Common.{sym, ap, ◌∙◌}
 use Rattle.document.specs.Books.{book_of}
-use Rattle.document.specs.Reads.{seen, links_in}
+use Rattle.document.specs.Reads.{seen}
 use Rattle.walk.proofs.Looking.{links_there}
 use Rattle.walk.proofs.look.links_at.Goals as goal
 

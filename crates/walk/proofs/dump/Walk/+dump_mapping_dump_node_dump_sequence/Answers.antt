@@ -1,10 +1,10 @@
-use Rattle.std.proofs.Common.{◌≡◌, ◌+◌, ◌*◌, length, refl, ap, subst, arith, rules, get_or, []}
+use Rattle.std.proofs.Common.{◌+◌, ◌*◌, length, refl, ap, arith, rules, get_or, []}
 use Rattle.std.proofs.lemmas.Result.{err_from_is_err_and}
-use Rattle.model.specs.declared.NodeKind.TheVariants.{Scalar, Sequence, Mapping}
+use Rattle.model.specs.declared.NodeKind.TheVariants.{Sequence, Mapping}
 use Rattle.document.specs.Books.{book_of}
 use Rattle.walk.specs.Going.{state_of}
 use Rattle.walk.proofs.Links.{link_at}
-use Rattle.walk.proofs.Goings.{Going, count_few, went_again, marked, went_leaf, can_open, opened_visited, going_none, going_more, opened, no_opening_here, no_opening_below, can_visit_child, end_few, key_link, value_link, key_visited, pair_visited, links_paired}
+use Rattle.walk.proofs.Goings.{count_few, went_again, marked, went_leaf, can_open, opened_visited, going_none, going_more, opened, no_opening_here, no_opening_below, can_visit_child, end_few, key_link, value_link, key_visited, pair_visited, links_paired}
 use Rattle.walk.proofs.dump.Walk.+dump_mapping_dump_node_dump_sequence.Goals as goal
 
 -- any node
