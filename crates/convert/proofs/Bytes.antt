@@ -20,9 +20,6 @@ byte_there f t i h = by f.latest refl h
 pub byte_is : (f : Flow) (t : Text) (i b : ℕ) → i < length (latest_text f t) → Some b ≡ byte_of f t i → b ≡ get_or (latest_text f t) i 0
 byte_is f t i b l h = let there = byte_there f t i l in cc
 
-pub byte_not_absent : (f : Flow) (t : Text) (i : ℕ) → i < length (latest_text f t) → None ≡ byte_of f t i → ⊥
-byte_not_absent f t i l h = let there = byte_there f t i l in let z : ◌≡◌ {A = ℕ} 0 1 = cc in omega (arith, z)
-
 -- one byte more is copied
 pub copied_more : (out text : List ℕ) (i b : ℕ) → i < length out → i < length text → b ≡ get_or text i 0 → take i out ≡ take i text → take (i + 1) (set out i b) ≡ take (i + 1) text
 copied_more out text i b lo lt h p = take_more_set out i b lo ∙ ap (λ x. take i out ++ x ∷ []) h ∙ ap (λ l. l ++ get_or text i 0 ∷ []) p ∙ sym (take_more text i 0 lt)

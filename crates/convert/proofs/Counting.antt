@@ -1,5 +1,5 @@
 -- Counting, event by event.
-use Rattle.std.proofs.Common.{◌≡◌, ℕ, ◌+◌, ◌-◌, ◌<◌, ◌≤◌, Bool, true, false, cond, eqb, ◌≢◌, ◌⊎◌, List, [], ◌∷◌, ◌++◌, length, get_or, take, drop, set, replicate, Option, sym, refl, ap, ◌∙◌, inl, inr, arith}
+use Rattle.std.proofs.Common.{◌≡◌, ℕ, ◌+◌, ◌-◌, ◌<◌, ◌≤◌, true, cond, eqb, ◌≢◌, ◌⊎◌, List, [], ◌∷◌, ◌++◌, length, get_or, take, drop, set, Some, None, Ok, Err, Option, sym, refl, ap, ◌∙◌, subst, inl, inr, arith}
 use Rattle.std.proofs.lemmas.List.{length-map, get_or-set_same, get_or-set_other, length-take-le}
 use Rattle.std.proofs.lemmas.Bool.{eq-eqb, ne_eqb, cases_eq}
 use Rattle.model.specs.declared.Fault.{Fault}
@@ -8,19 +8,24 @@ use Rattle.model.specs.declared.EventKind.TheVariants.{StreamStart, StreamEnd, D
 use Rattle.model.specs.Events.{Ev, kind_number, allowed}
 use Rattle.model.specs.Reading.{Marked, bare}
 use Rattle.yaml.specs.Flow.{Flow, Came, Over}
-use Rattle.yaml.specs.View.{Weighs}
+use Rattle.yaml.specs.View.{size_of}
 use Rattle.convert.specs.Handing.{total, first_ones, AllHanded}
-use Rattle.convert.specs.Surveys.{of_kind, bears_anchor, anchored, Tallied}
+use Rattle.convert.specs.declared.tally.Survey.{Survey}
+use Rattle.convert.specs.declared.tally.Unsurveyed.{Unsurveyed}
+use Rattle.convert.specs.declared.tally.Unsurveyed.TheVariants.{Faulty, TooLarge}
+use Rattle.convert.specs.Surveys.{of_kind, bears_anchor, anchored, Tallied, Surveyed, Untouched, Added, Adds}
 use Rattle.convert.proofs.Going.{total_push, one_on, ones_more, all_told}
 
--- n events were counted, and these are left; each weighed one byte at least
-pub record CountedSoFar (weight : Ev → ℕ) (f₀ : Flow) (n : ℕ) (kinds : List ℕ) (anchors bytes : ℕ) (f : Flow) : Type 0 where
-  pub tallied : Tallied weight (first_ones n f₀) n kinds anchors bytes
-  pub left : drop n f₀.coming.events ≡ f.coming.events
+-- these events were counted, and these are left
+pub record CountedSoFar (weight : Ev → ℕ) (f₀ : Flow) (s : Survey) (f : Flow) : Type 0 where
+  pub tallied : Tallied weight (first_ones s.events f₀) s.events s.kinds s.anchors s.bytes
+  pub left : drop s.events f₀.coming.events ≡ f.coming.events
   pub lasting : f.coming.after ≡ f₀.coming.after
-  pub within : n ≤ length f₀.coming.events
-  pub few : n ≤ bytes
-  pub told : bytes < 18446744073709551616
+  pub within : s.events ≤ length f₀.coming.events
+
+-- what an allowed event's size is
+pub given_size : (weight : Ev → ℕ) (e : Ev) → allowed e ≡ true → size_of weight e ≡ Some (weight e)
+given_size weight e a = ap (λ b. cond b (Some (weight e)) None) a
 
 number_range : (k : EventKind) → (1 ≤ kind_number k) × (kind_number k ≤ 10)
 number_range StreamStart = (omega arith, omega arith)
@@ -42,55 +47,20 @@ anchored_push : (es : List Ev) (e : Ev) → anchored (es ++ e ∷ []) ≡ anchor
 anchored_push [] e = omega arith
 anchored_push (x ∷ es) e = let more = anchored_push es e in omega arith
 
-cond_few : (b : Bool) → cond b 1 0 ≤ 1
-cond_few true = omega arith
-cond_few false = omega arith
-
-kind_few : (k : EventKind) (es : List Ev) → of_kind k es ≤ length es
-kind_few k [] = omega arith
-kind_few k (e ∷ es) = omega (arith, kind_few k es, cond_few (eqb (kind_number e.kind) (kind_number k)))
-
-given_few : (b : Bool) → cond b 0 1 ≤ 1
-given_few true = omega arith
-given_few false = omega arith
-
-pub bears_few : (k : EventKind) (n : ℕ) → bears_anchor k n ≤ 1
-bears_few StreamStart n = given_few (eqb n 0)
-bears_few StreamEnd n = given_few (eqb n 0)
-bears_few DocumentStart n = given_few (eqb n 0)
-bears_few DocumentEnd n = given_few (eqb n 0)
-bears_few Alias n = omega arith
-bears_few Scalar n = given_few (eqb n 0)
-bears_few SequenceStart n = given_few (eqb n 0)
-bears_few SequenceEnd n = given_few (eqb n 0)
-bears_few MappingStart n = given_few (eqb n 0)
-bears_few MappingEnd n = given_few (eqb n 0)
-
-anchored_few : (es : List Ev) → anchored es ≤ length es
-anchored_few [] = omega arith
-anchored_few (e ∷ es) = omega (arith, anchored_few es, bears_few e.kind (length e.anchor))
-
-pub counted_none : (weight : Ev → ℕ) (f : Flow) (kinds : List ℕ) → ((k : EventKind) → get_or kinds (kind_number k - 1) 0 ≡ 0) → CountedSoFar weight f 0 kinds 0 0 f
-counted_none weight f kinds zeros = record {
-  tallied = record { all = refl; kind = zeros; anchor = refl; byte = refl };
-  left = refl;
-  lasting = refl;
-  within = omega arith;
-  few = omega arith;
-  told = omega arith;
-}
-
-pub ten_zeros : (k : EventKind) → get_or (replicate 10 0) (kind_number k - 1) 0 ≡ ◌-◌ 0 0
-ten_zeros StreamStart = refl
-ten_zeros StreamEnd = refl
-ten_zeros DocumentStart = refl
-ten_zeros DocumentEnd = refl
-ten_zeros Alias = refl
-ten_zeros Scalar = refl
-ten_zeros SequenceStart = refl
-ten_zeros SequenceEnd = refl
-ten_zeros MappingStart = refl
-ten_zeros MappingEnd = refl
+pub counted_none : (weight : Ev → ℕ) (f : Flow) (s : Survey) → Untouched s → CountedSoFar weight f s f
+counted_none weight f s none =
+    let zero : s.events ≡ 0 = none.events in
+    record {
+      tallied = record {
+        all = zero ∙ ap (λ n. length (first_ones n f)) (sym zero);
+        kind = λ k. none.kinds k ∙ ap (λ n. of_kind k (first_ones n f)) (sym zero);
+        anchor = none.anchors ∙ ap (λ n. anchored (first_ones n f)) (sym zero);
+        byte = none.bytes ∙ ap (λ n. total weight (first_ones n f)) (sym zero);
+      };
+      left = ap (λ n. drop n f.coming.events) zero;
+      lasting = refl;
+      within = omega arith;
+    }
 
 -- counting one of a kind counts for that kind alone
 kind_counted : (kinds : List ℕ) (j k : EventKind) → length kinds ≡ 10
@@ -120,38 +90,40 @@ kind_counted kinds j k ten = by (cases_eq (kind_number j) (kind_number k))
 length_ones : (n : ℕ) (f : Flow) → n ≤ length f.coming.events → length (first_ones n f) ≡ n
 length_ones n f l = length-map (take n f.coming.events) bare ∙ length-take-le n f.coming.events l
 
-module _ (weight : Ev → ℕ) (f₀ : Flow) (n : ℕ) (kinds : List ℕ) (anchors bytes : ℕ) (f : Flow) (so : CountedSoFar weight f₀ n kinds anchors bytes f) where
-  -- no count is more than the events, and these are no more than the bytes
-  pub kind_below : (k : EventKind) → get_or kinds (kind_number k - 1) 0 ≤ bytes
-  kind_below k = omega (arith, so.tallied.kind k, kind_few k (first_ones n f₀), length_ones n f₀ so.within, so.few)
-
-  pub anchors_below : anchors ≤ bytes
-  anchors_below = omega (arith, so.tallied.anchor, anchored_few (first_ones n f₀), length_ones n f₀ so.within, so.few)
-
+module _ (weight : Ev → ℕ) (f₀ : Flow) (s : Survey) (f : Flow) (so : CountedSoFar weight f₀ s f) where
   -- one more
-  pub counted_more : Weighs weight → (m : Marked) (f' : Flow) (kinds' : List ℕ) (anchors' bytes' : ℕ) → Came f m f' → allowed m.event ≡ true → length kinds ≡ 10
-      → kinds' ≡ set kinds (kind_number m.event.kind - 1) (get_or kinds (kind_number m.event.kind - 1) 0 + 1)
-      → anchors' ≡ anchors + bears_anchor m.event.kind (length m.event.anchor) → bytes' ≡ bytes + weight m.event → bytes' < 18446744073709551616
-      → CountedSoFar weight f₀ (n + 1) kinds' anchors' bytes' f'
-  counted_more weighs m f' kinds' anchors' bytes' came a ten kinds-are anchors-are bytes-are small =
-      let next : drop n f₀.coming.events ≡ m ∷ f'.coming.events = so.left ∙ came.first in
-      let on = one_on n f₀.coming.events m f'.coming.events next in
-      let ones = ones_more n f₀ m f'.coming.events next in
-      let heavy = (weighs m.event a).0 in
+  pub counted_more : (m : Marked) (f' : Flow) (t : Survey) → length s.kinds ≡ 10 → Came f m f' → Added s m.event (weight m.event) t → CountedSoFar weight f₀ t f'
+  counted_more m f' t ten came added =
+      let next : drop s.events f₀.coming.events ≡ m ∷ f'.coming.events = so.left ∙ came.first in
+      let on = one_on s.events f₀.coming.events m f'.coming.events next in
+      let ones : first_ones t.events f₀ ≡ first_ones s.events f₀ ++ m.event ∷ [] = ap (λ n. first_ones n f₀) added.events ∙ ones_more s.events f₀ m f'.coming.events next in
+      let more = added.events in
+      let inside = on.inside in
       record {
         tallied = record {
-          all = sym (length_ones (n + 1) f₀ (omega (arith, on.inside)));
-          kind = λ k. ap (λ l. get_or l (kind_number k - 1) 0) kinds-are ∙ kind_counted kinds m.event.kind k ten
-              ∙ ap (λ x. x + cond (eqb (kind_number m.event.kind) (kind_number k)) 1 0) (so.tallied.kind k) ∙ sym (kind_push k (first_ones n f₀) m.event) ∙ sym (ap (of_kind k) ones);
-          anchor = anchors-are ∙ ap (λ x. x + bears_anchor m.event.kind (length m.event.anchor)) so.tallied.anchor ∙ sym (anchored_push (first_ones n f₀) m.event) ∙ sym (ap anchored ones);
-          byte = bytes-are ∙ ap (λ x. x + weight m.event) so.tallied.byte ∙ sym (total_push weight (first_ones n f₀) m.event) ∙ sym (ap (total weight) ones);
+          all = sym (length_ones t.events f₀ (omega arith));
+          kind = λ k. ap (λ l. get_or l (kind_number k - 1) 0) added.kinds ∙ kind_counted s.kinds m.event.kind k ten
+              ∙ ap (λ x. x + cond (eqb (kind_number m.event.kind) (kind_number k)) 1 0) (so.tallied.kind k) ∙ sym (kind_push k (first_ones s.events f₀) m.event) ∙ sym (ap (of_kind k) ones);
+          anchor = added.anchors ∙ ap (λ x. x + bears_anchor m.event.kind (length m.event.anchor)) so.tallied.anchor ∙ sym (anchored_push (first_ones s.events f₀) m.event) ∙ sym (ap anchored ones);
+          byte = added.bytes ∙ ap (λ x. x + weight m.event) so.tallied.byte ∙ sym (total_push weight (first_ones s.events f₀) m.event) ∙ sym (ap (total weight) ones);
         };
-        left = on.dropped;
+        left = ap (λ n. drop n f₀.coming.events) added.events ∙ on.dropped;
         lasting = came.lasting ∙ so.lasting;
-        within = omega (arith, on.inside);
-        few = omega (arith, so.few);
-        told = small;
+        within = omega arith;
       }
 
-  pub counted_all : (end : Option Fault) (f' : Flow) → Over f end f' → AllHanded f₀ n f' × (f₀.coming.after ≡ end)
-  counted_all end f' over = all_told f₀ n f so.left so.lasting so.within end f' over
+  pub counted_all : (end : Option Fault) (f' : Flow) → Over f end f' → AllHanded f₀ s.events f' × (f₀.coming.after ≡ end)
+  counted_all end f' over = all_told f₀ s.events f so.left so.lasting so.within end f' over
+
+  pub survey_ended : (f' : Flow) → Over f None f' → Surveyed weight f₀ (record s { stop = Ok tt }) f'
+  survey_ended f' over = record { tallied = so.tallied; end = counted_all None f' over }
+
+  pub survey_faulty : (g : Fault) (f' : Flow) → Over f (Some g) f' → Surveyed weight f₀ (record s { stop = Err (Faulty g) }) f'
+  survey_faulty g f' over = record { tallied = so.tallied; end = counted_all (Some g) f' over }
+
+  -- the next one makes the sum too large
+  pub survey_short : (m : Marked) (f' : Flow) (e : Unsurveyed) (t : Survey) → Came f m f' → Adds s m.event (weight m.event) (Err e) t → Surveyed weight f₀ (record t { stop = Err e }) f'
+  survey_short m f' (Faulty g) t came a = absurd a
+  survey_short m f' TooLarge t came a =
+      subst (λ (x : Survey). Surveyed weight f₀ (record x { stop = Err TooLarge }) f') (sym a.same)
+      (record { tallied = so.tallied; end = record { next_one = m; rest = f'.coming.events; is_next = so.left ∙ came.first; large = a.large } })

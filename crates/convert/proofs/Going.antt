@@ -1,19 +1,20 @@
 -- Handing on, event by event.
 use Rattle.std.proofs.Common.{◌≡◌, ℕ, zero, suc, ◌+◌, ◌-◌, ◌<◌, ◌≤◌, true, List, [], ◌∷◌, ◌++◌, map, length, take, drop, Some, None, Ok, Err, Option, sym, refl, ap, ◌∙◌, subst, arith}
 use Rattle.std.proofs.lemmas.List.{append_assoc, append-nil, map-append, drop_all, length-drop}
-use Rattle.std.proofs.lemmas.Bool.{and_parts, both_ways}
+use Rattle.std.proofs.lemmas.Bool.{both_ways}
 use Rattle.model.specs.declared.Fault.{Fault}
-use Rattle.model.specs.Events.{Ev, allowed, all_allowed}
+use Rattle.model.specs.Events.{Ev, allowed}
 use Rattle.model.specs.Reading.{Marked, bare}
 use Rattle.yaml.specs.declared.event.Head.{Head}
 use Rattle.yaml.specs.declared.sink.Refusal.{Refusal}
 use Rattle.yaml.specs.declared.sink.Refusal.TheVariants.{NotAllowed, NoSpace}
 use Rattle.yaml.specs.Shapes.{head_of}
-use Rattle.convert.specs.declared.convert.End.TheVariants.{Ended, Faulty, Refused}
-use Rattle.yaml.specs.Flow.{Flow, Sound, Came, Over, Gave}
+use Rattle.convert.specs.declared.convert.Unconverted.TheVariants.{Faulty, Refused}
+use Rattle.yaml.specs.Flow.{Flow, Came, Over, Gave}
 use Rattle.yaml.specs.View.{View, Weighs, Accepted, Full, Took}
-use Rattle.convert.specs.Copies.{latest_event, Latest}
-use Rattle.convert.specs.Handing.{total, first_ones, HandedOn, AllHanded, Stopped, Heads, Conversion}
+use Rattle.convert.specs.declared.whole.Whole.{Whole}
+use Rattle.convert.specs.Wholes.{marked_of, GaveWhole}
+use Rattle.convert.specs.Handing.{total, first_ones, HandedOn, AllHanded, Stopped, Conversion}
 
 -- n events were handed on, and these are left
 pub record SoFar (weight : Ev → ℕ) (f₀ : Flow) (v₀ : View) (n : ℕ) (f : Flow) (v : View) : Type 0 where
@@ -125,50 +126,22 @@ module _ (weight : Ev → ℕ) (f₀ : Flow) (v₀ : View) (n : ℕ) (f : Flow) 
 
   -- the sink refused the next one, which can only be for want of space
   pub refused : (m : Marked) (f' : Flow) (v' : View) (r : Refusal) → Came f m f' → allowed m.event ≡ true → Took weight v m.event (Err r) v'
-      → Conversion weight f₀ v₀ (record { events = n; end = Refused r }) f' v'
+      → Conversion weight f₀ v₀ (record { events = n; end = Err (Refused r) }) f' v'
   refused m f' v' NotAllowed came a unfit = absurd (both_ways (allowed m.event) unfit.not_allowed a)
   refused m f' v' (NoSpace size space) came a full = let s = stopped m size space f' v' came full in record { handed = s.0; end = s.1 }
 
-  pub at_end : (f' : Flow) → Over f None f' → Conversion weight f₀ v₀ (record { events = n; end = Ended }) f' v
+  pub at_end : (f' : Flow) → Over f None f' → Conversion weight f₀ v₀ (record { events = n; end = Ok tt }) f' v
   at_end f' over = record { handed = so.handed; end = all_handed None f' over }
 
-  pub at_fault : (fault : Fault) (f' : Flow) → Over f (Some fault) f' → Conversion weight f₀ v₀ (record { events = n; end = Faulty fault }) f' v
+  pub at_fault : (fault : Fault) (f' : Flow) → Over f (Some fault) f' → Conversion weight f₀ v₀ (record { events = n; end = Err (Faulty fault) }) f' v
   at_fault fault f' over = record { handed = so.handed; end = all_handed (Some fault) f' over }
 
--- what an answer that came says, by what is in it
+-- what a source gave, by what is in it
 pub gave_one : (f : Flow) (o : Option Head) (h : Head) (f' : Flow) → Gave f (Ok o) f' → o ≡ Some h → (m : Marked) × Came f m f' × (h ≡ head_of m)
 gave_one f o h f' gave is = subst (λ x. Gave f (Ok x) f') is gave
 
-pub gave_none : (f : Flow) (o : Option Head) (f' : Flow) → Gave f (Ok o) f' → o ≡ None → Over f None f'
-gave_none f o f' gave is = subst (λ x. Gave f (Ok x) f') is gave
+pub whole_came : (f : Flow) (o : Option Whole) (w : Whole) (f' : Flow) → GaveWhole f (Ok o) f' → o ≡ Some w → Came f (marked_of w) f'
+whole_came f o w f' gave is = subst (λ x. GaveWhole f (Ok x) f') is gave
 
--- what a source gives is the latest event, told by its head
-pub latest_is : (f' : Flow) (m : Marked) → f'.latest ≡ Some m.event → latest_event f' ≡ m.event
-latest_is f' m h = ap (λ o. latest_event (record { latest = o; coming = f'.coming })) h
-
-pub latest_there : (f' : Flow) (m : Marked) → f'.latest ≡ Some m.event → Latest f'
-latest_there f' m h = record { is = h ∙ ap Some (sym (latest_is f' m h)) }
-
-pub heads_latest : (f' : Flow) (m : Marked) (h : Head) → f'.latest ≡ Some m.event → h ≡ head_of m → Heads h (latest_event f')
-heads_latest f' m h l p =
-    let e = sym (latest_is f' m l) in
-    record {
-      kind = ap (λ x. x.kind) p ∙ ap (λ x. x.kind) e;
-      style = ap (λ x. x.style) p ∙ ap (λ x. x.style) e;
-      flags = ap (λ x. x.flags) p ∙ ap (λ x. x.flags) e;
-      anchor = ap (λ x. x.anchor) p ∙ ap (λ x. length x.anchor) e;
-      tag = ap (λ x. x.tag) p ∙ ap (λ x. length x.tag) e;
-      value = ap (λ x. x.value) p ∙ ap (λ x. length x.value) e;
-    }
-
--- what came was allowed
-pub came_allowed : (f : Flow) (m : Marked) (f' : Flow) → Sound f → Came f m f' → allowed m.event ≡ true
-came_allowed f m f' sound came =
-    let first : all_allowed (m.event ∷ map bare f'.coming.events) ≡ true = sym (ap (λ l. all_allowed (map bare l)) came.first) ∙ sound in
-    (and_parts (allowed m.event) (all_allowed (map bare f'.coming.events)) first).0
-
--- and it weighs one byte at least
-pub gave_heavy : (weight : Ev → ℕ) → Weighs weight → (f : Flow) (o : Option Head) (h : Head) (f' : Flow) → Sound f → Gave f (Ok o) f' → o ≡ Some h → 1 ≤ weight (latest_event f')
-gave_heavy weight weighs f o h f' sound gave is =
-    let one = gave_one f o h f' gave is in
-    (weighs (latest_event f') (ap allowed (latest_is f' one.0 one.1.latest) ∙ came_allowed f one.0 f' sound one.1)).0
+pub whole_over : (f : Flow) (o : Option Whole) (f' : Flow) → GaveWhole f (Ok o) f' → o ≡ None → Over f None f'
+whole_over f o f' gave is = subst (λ x. GaveWhole f (Ok x) f') is gave

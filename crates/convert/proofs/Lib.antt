@@ -1,4 +1,5 @@
 pub mod Bytes
-pub mod Whole
+pub mod Allowed
+pub mod Together
 pub mod Going
 pub mod Counting

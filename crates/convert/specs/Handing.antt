@@ -1,15 +1,14 @@
 -- What handing on a source's events to a sink does.
-use Rattle.std.specs.Prelude.{◌≡◌, ℕ, ◌+◌, ◌<◌, List, [], ◌∷◌, ◌++◌, map, length, take, drop, Some, None}
+use Rattle.std.specs.Prelude.{◌≡◌, ℕ, ◌+◌, ◌<◌, List, [], ◌∷◌, ◌++◌, map, length, take, drop, Some, None, Ok, Err, Result}
 use Rattle.model.specs.Events.{Ev}
 use Rattle.model.specs.Reading.{Marked, bare}
-use Rattle.yaml.specs.declared.event.Head.{Head}
 use Rattle.yaml.specs.declared.sink.Refusal.{Refusal}
 use Rattle.yaml.specs.declared.sink.Refusal.TheVariants.{NotAllowed, NoSpace}
 use Rattle.yaml.specs.Flow.{Flow}
 use Rattle.yaml.specs.View.{View}
 use Rattle.convert.specs.declared.convert.Converted.{Converted}
-use Rattle.convert.specs.declared.convert.End.{End}
-use Rattle.convert.specs.declared.convert.End.TheVariants.{Ended, Faulty, Refused}
+use Rattle.convert.specs.declared.convert.Unconverted.{Unconverted}
+use Rattle.convert.specs.declared.convert.Unconverted.TheVariants.{Faulty, Refused}
 
 -- the sizes of some events, added up
 abbrev pub total : (Ev → ℕ) → List Ev → ℕ
@@ -44,21 +43,12 @@ abbrev stop : (Ev → ℕ) → Flow → ℕ → View → Refusal → Flow → Ty
 stop weight f₀ n v NotAllowed f = ⊥
 stop weight f₀ n v (NoSpace size space) f = Stopped weight f₀ n v size space f
 
-abbrev ending : (Ev → ℕ) → Flow → ℕ → View → End → Flow → Type 0
-ending weight f₀ n v Ended f = AllHanded f₀ n f × (f₀.coming.after ≡ None)
-ending weight f₀ n v (Faulty g) f = AllHanded f₀ n f × (f₀.coming.after ≡ Some g)
-ending weight f₀ n v (Refused r) f = stop weight f₀ n v r f
+abbrev ending : (Ev → ℕ) → Flow → ℕ → View → Result (Unit {0}) Unconverted → Flow → Type 0
+ending weight f₀ n v (Ok u) f = AllHanded f₀ n f × (f₀.coming.after ≡ None)
+ending weight f₀ n v (Err (Faulty g)) f = AllHanded f₀ n f × (f₀.coming.after ≡ Some g)
+ending weight f₀ n v (Err (Refused r)) f = stop weight f₀ n v r f
 
 -- Exactly the events to come are handed on, up to the end, the fault or the first that does not fit, and the answer tells how many and why no more.
 pub record Conversion (weight : Ev → ℕ) (f₀ : Flow) (v₀ : View) (r : Converted) (f : Flow) (v : View) : Type 0 where
   pub handed : HandedOn weight f₀ v₀ r.events v
   pub end : ending weight f₀ r.events v r.end f
-
--- the head tells the kind, style, flags and lengths of an event
-pub record Heads (h : Head) (e : Ev) : Type 0 where
-  pub kind : h.kind ≡ e.kind
-  pub style : h.style ≡ e.style
-  pub flags : h.flags ≡ e.flags
-  pub anchor : h.anchor ≡ length e.anchor
-  pub tag : h.tag ≡ length e.tag
-  pub value : h.value ≡ length e.value

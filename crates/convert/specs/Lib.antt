@@ -1,3 +1,4 @@
 pub mod Copies
 pub mod Handing
 pub mod Surveys
+pub mod Wholes

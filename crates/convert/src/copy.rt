@@ -10,10 +10,7 @@ pub fn copy_text<S: Source>(source: &S, text: Text, n: usize, out: &mut [u8])
     requires fits { n ≤ length out.old }
     ensures { take n out.new ≡ latest_text (S.Source.flow source.now) text }
 {
-    for i in 0..n {
-        let Some(b) = source.byte(text, i) else {
-            return;
-        };
-        out[i] = b;
+    for (i, b) in out[..n].iter_mut().enumerate() {
+        *b = source.byte(text, i).unwrap();
     }
 }

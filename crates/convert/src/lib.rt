@@ -4,6 +4,11 @@
 pub mod convert;
 pub mod copy;
 pub mod survey;
+pub mod tally;
+pub mod texts;
+pub mod whole;
 
-pub use convert::{Converted, End, hand_all};
-pub use survey::{Stop, Survey};
+pub use convert::{Converted, Unconverted, hand_all};
+pub use survey::{Survey, Unsurveyed};
+pub use texts::Texts;
+pub use whole::Whole;

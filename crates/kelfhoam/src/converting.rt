@@ -2,7 +2,7 @@
 use crate::input::{Form, form_name, form_of, read_input};
 use crate::words::{cause_words, refusal_words};
 use convert::survey::look_over;
-use convert::{End, Stop, Survey, hand_all};
+use convert::{Survey, Unconverted, Unsurveyed, hand_all};
 use lines::{LineReader, LineWriter};
 use packed::{PackedReader, PackedWriter};
 use std::alloc::{AllocError, Global};
@@ -41,23 +41,23 @@ pub struct Output {
 // The survey of a source that is to be converted whole.
 fn whole(survey: Survey) -> Result<Survey, Failure> {
     match survey.stop {
-        Stop::Ended => Ok(survey),
-        Stop::Faulty(fault) => Err(Failure::Fault {
+        Ok(()) => Ok(survey),
+        Err(Unsurveyed::Faulty(fault)) => Err(Failure::Fault {
             fault,
             events: survey.events,
         }),
-        Stop::TooLarge => Err(Failure::TooLarge {
+        Err(Unsurveyed::TooLarge) => Err(Failure::TooLarge {
             events: survey.events,
         }),
     }
 }
 
 // How handing on ended.
-fn handed(end: End, events: usize) -> Result<(), Failure> {
+fn handed(end: Result<(), Unconverted>, events: usize) -> Result<(), Failure> {
     match end {
-        End::Ended => Ok(()),
-        End::Faulty(fault) => Err(Failure::Fault { fault, events }),
-        End::Refused(refusal) => Err(Failure::Refused { refusal, events }),
+        Ok(()) => Ok(()),
+        Err(Unconverted::Faulty(fault)) => Err(Failure::Fault { fault, events }),
+        Err(Unconverted::Refused(refusal)) => Err(Failure::Refused { refusal, events }),
     }
 }
 

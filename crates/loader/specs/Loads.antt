@@ -1,5 +1,6 @@
 -- How the loader's code relates to the definition of loading.
-use Rattle.std.specs.Prelude.{◌≡◌, [], Ok, Err, Result, None, Some}
+use Rattle.std.specs.Prelude.{◌≡◌, [], Some, None, Ok, Err, Option, Result}
+use Rattle.model.specs.declared.Fault.{Fault}
 use Rattle.model.specs.Reading.{Marked}
 use Rattle.yaml.specs.declared.event.Head.{Head}
 use Rattle.yaml.specs.Shapes.{head_of}
@@ -8,11 +9,10 @@ use Rattle.tables.specs.Stacks.{room_of}
 use Rattle.document.specs.Empty.{empty_node}
 use Rattle.composer.specs.declared.stacks.Tables.{Tables}
 use Rattle.composer.specs.declared.refusal.Refusal.{Refusal}
-use Rattle.composer.specs.declared.refusal.Refusal.TheVariants.{EarlierRefused}
+use Rattle.composer.specs.declared.refusal.Refusal.TheVariants.{EarlierRefused, SourceFault, NoEvent}
 use Rattle.composer.specs.Names.{empty_anchor}
 use Rattle.composer.specs.State.{St, Spaces}
 use Rattle.composer.specs.Holding.{state_of, lengths_of, base_of, AllClean}
-use Rattle.convert.specs.Copies.{latest_event}
 use Rattle.loader.specs.declared.answer.Loaded.{Loaded}
 use Rattle.loader.specs.declared.answer.Phase.{Phase}
 use Rattle.loader.specs.declared.answer.Phase.TheVariants.{Fresh, Between, Ended, Spoilt}
@@ -30,13 +30,11 @@ pub record NoneCame (before : Flow) (e : Refusal) (after : Flow) : Type 0 where
   pub why : e ≡ missing before.coming.after
   pub same : after ≡ before
 
-abbrev pub Next : Flow → Result Head Refusal → Flow → Type 0
-Next before (Ok h) after = HeadCame before h after
-Next before (Err e) after = NoneCame before e after
-
--- the latest event with the marks that its head tells
-abbrev pub latest_marked : Flow → Head → Marked
-latest_marked f h = record { event = latest_event f; start = h.start; end = h.end }
+-- 21 and 22: what a source gave, or why it gave no event
+abbrev pub given : {T : Type 0} → Result (Option T) Fault → Result T Refusal
+given (Ok (Some x)) = Ok x
+given (Ok None) = Err NoEvent
+given (Err f) = Err (SourceFault f)
 
 -- the start of a document, which has no texts, by its head
 abbrev pub start_marked : Head → Marked

@@ -1,52 +1,43 @@
 // A stream: its start, its documents, its end.
-ghost use Rattle.std.specs.Prelude.{◌≡◌, ◌≤◌, length};
+ghost use Rattle.std.specs.Prelude.{◌≡◌};
 ghost use Rattle.composer.specs.State.{blank};
 ghost use Rattle.composer.specs.Holding.{state_of, spaces_of};
-ghost use Rattle.loader.specs.Loading.{is_document_end};
 ghost use Rattle.loader.specs.Loads.{Ends, Runs, running_on, between_on, fresh_on, loading_on, start_marked};
 
 use crate::answer::{Loaded, Phase};
-use crate::events::{next_head, take_event};
-use composer::{Refusal, Tables};
+use crate::events::given;
+use composer::{Placed, Refusal, Tables};
+use convert::Texts;
 use model::EventKind;
 use yaml::{Head, Source};
-
-fn is_document_end(kind: EventKind) -> bool
-    ensures { result ≡ is_document_end kind }
-{
-    match kind {
-        EventKind::DocumentEnd => true,
-        _ => false,
-    }
-}
 
 // The events within a document that began with `begin`, up to its end.
 fn load_nodes<S: Source>(
     source: &mut S,
     begin: &Head,
-    anchor: &mut [u8],
-    tag: &mut [u8],
-    value: &mut [u8],
     tables: &mut Tables<'_>,
 ) -> Result<Loaded, Refusal>
-    requires anchor { 64 ≤ length anchor.old }
-    requires tag { 256 ≤ length tag.old }
-    requires value { 4096 ≤ length value.old }
     ensures { Runs (running_on (spaces_of tables.old) (start_marked begin.now) (S.Source.flow source.old) (state_of tables.old)) tables.old result tables.new (S.Source.flow source.new) }
 {
+    let mut texts = Texts::new();
     loop {
-        let head = next_head(source)?;
-        take_event(source, &head, anchor, tag, value, tables)?;
-        if is_document_end(head.kind) {
+        let whole = given(texts.next_of(source))?;
+        let placed = Placed {
+            event: whole.event,
+            start: whole.start,
+            end: whole.end,
+        };
+        tables.take(&placed)?;
+        if whole.event.kind == EventKind::DocumentEnd {
             return Ok(Loaded {
                 nodes: tables.node_count(),
                 links: tables.link_count(),
                 text: tables.text_count(),
                 anchors: tables.anchor_count(),
                 start_implicit: begin.flags == 1,
-                end_implicit: head.flags == 1,
+                end_implicit: whole.event.flags == 1,
                 start: begin.start,
-                end: head.end,
+                end: whole.end,
             });
         }
     }
@@ -60,13 +51,10 @@ fn load_document<S: Source>(
     requires blank { state_of tables.old ≡ blank }
     ensures { Ends (between_on (spaces_of tables.old) (S.Source.flow source.old)) tables.old result tables.new (S.Source.flow source.new) }
 {
-    let head = next_head(source)?;
+    let head = given(source.next_event())?;
     match head.kind {
         EventKind::DocumentStart => {
-            let mut anchor = [0u8; 64];
-            let mut tag = [0u8; 256];
-            let mut value = [0u8; 4096];
-            let loaded = load_nodes(source, &head, &mut anchor, &mut tag, &mut value, tables)?;
+            let loaded = load_nodes(source, &head, tables)?;
             Ok(Some(loaded))
         }
         EventKind::StreamEnd => Ok(None),
@@ -82,7 +70,7 @@ fn load_stream<S: Source>(
     requires blank { state_of tables.old ≡ blank }
     ensures { Ends (fresh_on (spaces_of tables.old) (S.Source.flow source.old)) tables.old result tables.new (S.Source.flow source.new) }
 {
-    let head = next_head(source)?;
+    let head = given(source.next_event())?;
     match head.kind {
         EventKind::StreamStart => load_document(source, tables),
         _ => Err(Refusal::NotInTurn { at: head.start }),

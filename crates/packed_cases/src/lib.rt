@@ -1,7 +1,7 @@
 // Examples of packed events: read, refused, written and converted.
 #![tactic(auto)]
 
-use convert::{End, hand_all};
+use convert::{Unconverted, hand_all};
 use lines::LineReader;
 use packed::{PackedReader, PackedWriter};
 use yaml::event::allowed;
@@ -242,7 +242,7 @@ mod tests {
         let mut sink = PackedWriter::new(&mut out);
         let converted = hand_all(&mut source, &mut sink);
         assert!(rt; converted.events == 8);
-        assert!(rt; matches!(converted.end, End::Ended));
+        assert!(rt; converted.end.is_ok());
         let written = sink.finish();
         assert!(rt; written == BOOK.as_slice());
     }
@@ -257,7 +257,7 @@ mod tests {
         assert!(rt;
             matches!(
                 converted.end,
-                End::Refused(Refusal::NoSpace { size: 9, space: 8 })
+                Err(Unconverted::Refused(Refusal::NoSpace { size: 9, space: 8 }))
             )
         );
     }

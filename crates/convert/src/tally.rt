@@ -1,0 +1,73 @@
+// What a survey tells, counted event by event.
+ghost use Rattle.std.specs.Prelude.{◌≡◌, ℕ, ◌≤◌, length, slice_index};
+ghost use Rattle.convert.specs.declared.tally.Unsurveyed.TheVariants.{Faulty};
+
+use yaml::{Event, EventKind, Fault};
+
+// Why not every event was surveyed.
+#[derive(Clone, Copy, PartialEq, Eq, Debug)]
+pub enum Unsurveyed {
+    // the source gave a fault
+    Faulty(Fault),
+    // the bytes are more than a number can tell
+    TooLarge,
+}
+
+impl From<Fault> for Unsurveyed {
+    ghost from_gives = { λ fault e. e ≡ Faulty fault };
+
+    fn from(fault: Fault) -> Unsurveyed {
+        Unsurveyed::Faulty(fault)
+    }
+}
+
+// What is to come. Each event is a byte at least, so no count is larger than the bytes.
+#[derive(Clone, Copy, PartialEq, Eq, Debug)]
+pub struct Survey {
+    pub events: usize,
+    // how many of each kind, in the order of the kinds' numbers
+    pub kinds: [usize; 10],
+    // how many nodes have an anchor
+    pub anchors: usize,
+    // the sizes, added up
+    pub bytes: usize,
+    // whether these are all
+    pub stop: Result<(), Unsurveyed>,
+    ghost ten: { length kinds ≡ 10 },
+    ghost heavy: { events ≤ bytes },
+    ghost few_kinds: { (k : ℕ) → slice_index kinds k ≤ events },
+    ghost few_anchors: { anchors ≤ events },
+}
+
+impl Survey {
+    ghost use Rattle.yaml.specs.Shapes.{ev_of};
+    ghost use Rattle.convert.specs.Surveys.{Adds, Untouched};
+
+    // No event is surveyed yet.
+    pub fn new() -> Survey
+        ensures { Untouched result }
+    {
+        Survey {
+            events: 0,
+            kinds: [0; 10],
+            anchors: 0,
+            bytes: 0,
+            stop: Ok(()),
+        }
+    }
+
+    // Counts one event of this size.
+    pub fn add(&mut self, event: &Event<'_>, size: usize) -> Result<(), Unsurveyed>
+        requires heavy { 1 ≤ size }
+        ensures { Adds self.old (ev_of event.now) size result self.new }
+    {
+        self.bytes = self.bytes.checked_add(size).ok_or(Unsurveyed::TooLarge)?;
+        self.events += 1;
+        self.kinds[usize::from(u8::from(event.kind)) - 1] += 1;
+        // an alias names an anchor, and gives none
+        if event.kind != EventKind::Alias && !event.anchor.is_empty() {
+            self.anchors += 1;
+        }
+        Ok(())
+    }
+}
