@@ -6,6 +6,10 @@ use Rattle.yaml.specs.declared.event.Head.{Head}
 use Rattle.yaml.specs.Shapes.{head_of}
 use Rattle.yaml.specs.Flow.{Flow, Came}
 use Rattle.tables.specs.Stacks.{room_of}
+use Rattle.document.specs.declared.refusal.Refusal.{Refusal as NoDocument}
+use Rattle.document.specs.declared.standing.Document.{Document}
+use Rattle.document.specs.Books.{Stands}
+use Rattle.document.specs.Check.{Handed, handed, Refused}
 use Rattle.document.specs.Empty.{empty_node}
 use Rattle.composer.specs.declared.stacks.Tables.{Tables}
 use Rattle.composer.specs.declared.refusal.Refusal.{Refusal}
@@ -97,3 +101,12 @@ pub record ComesTo (o : Outcome) (before : Tables) (answer : Answer) (phase : Ph
 
 abbrev pub Loads : Phase → Flow → Tables → Answer → Phase → Flow → Tables → Type 0
 Loads phase f before answer phase' f' after = ComesTo (loading (lengths_of before) phase f) before answer phase' f' after
+
+-- what these tables hand in to a Document for what was loaded
+abbrev pub handed_by : Tables → Loaded → Handed
+handed_by t l = handed t.nodes.items.now t.links.items.now t.text.items.now l.nodes
+
+-- a Document that stands on them, or why there is none
+abbrev pub StoodOn : Tables → Loaded → Result Document NoDocument → Type 0
+StoodOn t l (Ok d) = Stands (handed_by t l) l.start_implicit l.end_implicit d
+StoodOn t l (Err f) = Refused (handed_by t l) f

@@ -1,8 +1,12 @@
 // What a load gives, and where a loader is.
+ghost use Rattle.loader.specs.Loads.{StoodOn};
+
+use composer::Tables;
+use document::{Document, Handed, Refusal};
 use model::Mark;
 
 // A document stands in the tables: how many entries of each it took, its flags and its marks.
-#[derive(Clone, Copy)]
+#[derive(Clone, Copy, PartialEq, Eq, Debug)]
 pub struct Loaded {
     pub nodes: usize,
     pub links: usize,
@@ -16,8 +20,24 @@ pub struct Loaded {
     pub end: Mark,
 }
 
+impl Loaded {
+    // The Document on the tables that hold what was loaded, or why none stands on them.
+    pub fn document<'t>(&self, tables: &'t Tables<'_>) -> Result<Document<'t>, Refusal>
+        ensures { StoodOn tables.now self.now result }
+    {
+        Document::stand(Handed {
+            nodes: tables.nodes(),
+            links: tables.links(),
+            text: tables.text(),
+            count: self.nodes,
+            start_implicit: self.start_implicit,
+            end_implicit: self.end_implicit,
+        })
+    }
+}
+
 // Where a loader is in its stream.
-#[derive(Clone, Copy)]
+#[derive(Clone, Copy, PartialEq, Eq, Debug)]
 pub enum Phase {
     // before the stream's start
     Fresh,

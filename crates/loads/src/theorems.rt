@@ -1,4 +1,4 @@
-// The theorems about loading. What the functions answer means nothing: each stands for what its contract says.
+// The theorems about loading. The functions do nothing: each stands for what its contract says.
 ghost use Rattle.loads.specs.Stepping.{StepComposes};
 ghost use Rattle.loads.specs.Room.{StepAccepted, StepWithin, LoadedExactly, ComposedLoads, StopsWithin};
 ghost use Rattle.loads.specs.Runs.{LoadComposes};
@@ -12,148 +12,106 @@ ghost use Rattle.loads.specs.Loads.{LoadGives, LoadRuns};
 ghost use Rattle.loads.specs.Gives.{CodeGives};
 
 // each accepted event is taken in by composing
-pub fn steps_compose() -> u8
+pub fn steps_compose()
     ensures { StepComposes }
-{
-    0
-}
+{}
 
 // what composing takes in, with space for it, is accepted
-pub fn steps_accepted() -> u8
+pub fn steps_accepted()
     ensures { StepAccepted }
-{
-    0
-}
+{}
 
 // accepted steps keep within the space
-pub fn steps_within() -> u8
+pub fn steps_within()
     ensures { StepWithin }
-{
-    0
-}
+{}
 
 // what is loaded is what its events compose to, and nothing else
-pub fn load_composes() -> u8
+pub fn load_composes()
     ensures { LoadComposes }
-{
-    0
-}
+{}
 
 // a document is loaded exactly where its events compose, with space all the way
-pub fn loaded_exactly() -> u8
+pub fn loaded_exactly()
     ensures { LoadedExactly }
-{
-    0
-}
+{}
 
 // events that compose are loaded, whatever their marks and whatever follows
-pub fn composed_loads() -> u8
+pub fn composed_loads()
     ensures { ComposedLoads }
-{
-    0
-}
+{}
 
 // events that stop within the document are refused
-pub fn stops_within() -> u8
+pub fn stops_within()
     ensures { StopsWithin }
-{
-    0
-}
+{}
 
 // what a document was serialized to is loaded to one that is alike
-pub fn walk_loads() -> u8
+pub fn walk_loads()
     ensures { WalkLoads }
-{
-    0
-}
+{}
 
 // and where it breaks off, it is refused
-pub fn walk_stops() -> u8
+pub fn walk_stops()
     ensures { WalkStops }
-{
-    0
-}
+{}
 
 // what is loaded passes the document's check, in tables of any length
-pub fn loaded_stands() -> u8
+pub fn loaded_stands()
     ensures { LoadedStands }
-{
-    0
-}
+{}
 
 // what is composed is walked in the order of its numbers
-pub fn composed_walk() -> u8
+pub fn composed_walk()
     ensures { ComposedWalk }
-{
-    0
-}
+{}
 
 // every walk of it meets its nodes in that order
-pub fn composed_order() -> u8
+pub fn composed_order()
     ensures { ComposedOrder }
-{
-    0
-}
+{}
 
 // and a path leads to each of them
-pub fn composed_led() -> u8
+pub fn composed_led()
     ensures { ComposedLed }
-{
-    0
-}
+{}
 
 // nodes and documents begin and end where their events do
-pub fn loaded_marks() -> u8
+pub fn loaded_marks()
     ensures { LoadedMarks }
-{
-    0
-}
+{}
 
 // small documents
-pub fn small_examples() -> u8
+pub fn small_examples()
     ensures { SmallExamples }
-{
-    0
-}
+{}
 
 // deep documents
-pub fn deep_examples() -> u8
+pub fn deep_examples()
     ensures { DeepExamples }
-{
-    0
-}
+{}
 
 // an event is refused exactly for the reason that is told
-pub fn step_refused() -> u8
+pub fn step_refused()
     ensures { StepRefused }
-{
-    0
-}
+{}
 
 // a document is refused by its first event that is refused, or since none came
-pub fn run_refused() -> u8
+pub fn run_refused()
     ensures { RunRefused }
-{
-    0
-}
+{}
 
 // the document that a load gave, whole
-pub fn load_gives() -> u8
+pub fn load_gives()
     ensures { LoadGives }
-{
-    0
-}
+{}
 
 // a load runs the document that comes next
-pub fn load_runs() -> u8
+pub fn load_runs()
     ensures { LoadRuns }
-{
-    0
-}
+{}
 
 // all this holds of what the loader's code gives
-pub fn code_gives() -> u8
+pub fn code_gives()
     ensures { CodeGives }
-{
-    0
-}
+{}
