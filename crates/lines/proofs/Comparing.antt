@@ -1,22 +1,28 @@
--- One byte that is compared.
-use Rattle.std.proofs.Common.{◌≡◌, ℕ, ◌+◌, ◌<◌, ◌≤◌, true, false, ◌&&◌, eqb, List, [], ◌∷◌, length, get_or, drop, sym, refl, ap, ◌∙◌, arith}
-use Rattle.std.proofs.lemmas.List.{drop_more, drop_all}
-use Rattle.std.proofs.lemmas.Bool.{eq-eqb, ne_eqb, and_from, and_left}
-use Rattle.lines.specs.declared.compare.Compare.{Compare}
+-- What is left of some bytes once a line was taken off their front.
+use Rattle.std.proofs.Common.{◌≡◌, ℕ, ◌+◌, Bool, true, false, cond, ◌&&◌, eqb, List, [], ◌∷◌, length, Some, None, refl, ap, arith}
 use Rattle.lines.specs.Line.{starts_with}
-use Rattle.lines.specs.Pens.{Compared}
+use Rattle.lines.specs.Pens.{strip}
 
-found : (b at : ℕ) (bs : List ℕ) → at < length bs → get_or bs at 0 ≡ b → starts_with (b ∷ []) (drop at bs) ≡ true
-found b at bs l h = ap (starts_with (b ∷ [])) (drop_more bs at 0 l) ∙ and_from (eqb b (get_or bs at 0)) true (eq-eqb b (get_or bs at 0) (sym h)) refl
+-- the line is there, and what is left follows it
+pub record Within (xs bs left : List ℕ) : Type 0 where
+  pub begins : starts_with xs bs ≡ true
+  pub lengths : length left + length xs ≡ length bs
 
-pub other_byte : (b at : ℕ) (bs : List ℕ) → at < length bs → (get_or bs at 0 ≡ b → ⊥) → starts_with (b ∷ []) (drop at bs) ≡ false
-other_byte b at bs l h = ap (starts_with (b ∷ [])) (drop_more bs at 0 l) ∙ and_left (eqb b (get_or bs at 0)) true (ne_eqb b (get_or bs at 0) (λ e. h (sym e)))
+pub strip_some : (xs bs left : List ℕ) → Some left ≡ strip xs (Some bs) → Within xs bs left
+strip_some [] bs left h = let same : left ≡ bs = cc in record { begins = refl; lengths = omega (arith, ap length same) }
+strip_some (x ∷ xs) [] left h = cc
+strip_some (x ∷ xs) (b ∷ bs) left h = let w = by (eqb x b) h (strip_some xs bs left) in record { begins = w.0; lengths = omega (arith, w.1) }
+  where
+    by : (same : Bool) → Some left ≡ cond same (strip xs (Some bs)) None → (Some left ≡ strip xs (Some bs) → Within xs bs left)
+        → ((same && starts_with xs bs) ≡ true) × (length left + length xs ≡ length bs)
+    by true p rest = let w = rest p in (w.begins, w.lengths)
+    by false p rest = cc
 
-pub no_byte : (b at : ℕ) (bs : List ℕ) → length bs ≤ at → starts_with (b ∷ []) (drop at bs) ≡ false
-no_byte b at bs l = ap (starts_with (b ∷ [])) (drop_all at bs l)
-
-pub one_same : (s : Compare) (b : ℕ) → s.same ≡ true → s.at < length s.bytes.now → get_or s.bytes.now s.at 0 ≡ b → Compared s (b ∷ []) (record { bytes = s.bytes; at = s.at + 1; same = s.same })
-one_same s b h l e = record { bytes = refl; same = h ∙ sym (and_from s.same (starts_with (b ∷ []) (drop s.at s.bytes.now)) h (found b s.at s.bytes.now l e)); place = λ k. refl }
-
-pub one_lost : (s : Compare) (b : ℕ) → (s.same && starts_with (b ∷ []) (drop s.at s.bytes.now)) ≡ false → Compared s (b ∷ []) (record { bytes = s.bytes; at = s.at; same = false })
-one_lost s b h = record { bytes = refl; same = sym h; place = λ k. let z : ◌≡◌ {A = ℕ} 0 1 = cc in absurd (omega (arith, z)) }
+pub strip_none : (xs bs : List ℕ) → None ≡ strip xs (Some bs) → starts_with xs bs ≡ false
+strip_none [] bs h = cc
+strip_none (x ∷ xs) [] h = refl
+strip_none (x ∷ xs) (b ∷ bs) h = by (eqb x b) h (strip_none xs bs)
+  where
+    by : (same : Bool) → None ≡ cond same (strip xs (Some bs)) None → (None ≡ strip xs (Some bs) → starts_with xs bs ≡ false) → (same && starts_with xs bs) ≡ false
+    by true p rest = rest p
+    by false p rest = refl

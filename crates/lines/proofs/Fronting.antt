@@ -14,22 +14,12 @@ no_bytes bs h = sym (ap line_front (nil_from_length bs h) ∙ lines_format.nothi
 front_by : (bs : List ℕ) (e : Ev) → 1 ≤ length bs → e ≡ guess bs → line_front bs ≡ front_for e bs
 front_by bs e l g = front_some bs l ∙ ap (λ x. front_for x bs) (sym g)
 
-pub not_allowed : (bs : List ℕ) → 1 ≤ length bs → allowed (guess bs) ≡ false → fault NotALine ≡ line_front bs
-not_allowed bs l h = sym (front_by bs (guess bs) l refl ∙ cond-false (is_line_of (guess bs) bs) _ _ (and_left (allowed (guess bs)) _ h))
+-- the bytes do not begin with the line of the event that they seem to tell
+pub no_line : (bs : List ℕ) → 1 ≤ length bs → is_line_of (guess bs) bs ≡ false → fault NotALine ≡ line_front bs
+no_line bs l h = sym (front_by bs (guess bs) l refl ∙ cond-false (is_line_of (guess bs) bs) _ _ h)
 
-pub not_same : (bs : List ℕ) (e : Ev) → 1 ≤ length bs → e ≡ guess bs → starts_with (line_of e) bs ≡ false → fault NotALine ≡ line_front bs
-not_same bs e l g h = sym (front_by bs e l g ∙ cond-false (is_line_of e bs) _ _ (and_right (allowed e) _ h))
-
-pub a_line : (bs : List ℕ) (e : Ev) → 1 ≤ length bs → e ≡ guess bs → allowed e ≡ true → starts_with (line_of e) bs ≡ true → event e (length (line_of e)) ≡ line_front bs
-a_line bs e l g a h = sym (front_by bs e l g ∙ cond-true (is_line_of e bs) _ _ (and_from (allowed e) _ a h))
-
-pub within_some : (b : Bool) (m n : ℕ) → Some m ≡ cond b (Some n) None → (b ≡ true) × (m ≡ n)
-within_some true m n h = (refl, cc)
-within_some false m n h = let z : ◌≡◌ {A = ℕ} 0 1 = cc in absurd (omega (arith, z))
-
-pub within_none : (b : Bool) (n : ℕ) → None ≡ cond b (Some n) None → b ≡ false
-within_none true n h = let z : ◌≡◌ {A = ℕ} 0 1 = cc in absurd (omega (arith, z))
-within_none false n h = refl
+pub a_line : (bs : List ℕ) (e : Ev) (n : ℕ) → 1 ≤ length bs → e ≡ guess bs → allowed e ≡ true → (starts_with (line_of e) bs ≡ true) × (n ≡ length (line_of e)) → event e n ≡ line_front bs
+a_line bs e n l g a w = ap (event e) w.1 ∙ sym (front_by bs e l g ∙ cond-true (is_line_of e bs) _ _ (and_from (allowed e) _ a w.0))
 
 pub line_inside : (e : Ev) (n : ℕ) (bs : List ℕ) → event e n ≡ line_front bs → (1 ≤ n) × (n ≤ length bs)
 line_inside e n bs h =

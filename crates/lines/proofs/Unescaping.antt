@@ -1,36 +1,25 @@
 -- A text is read byte by byte into a buffer.
-use Rattle.std.proofs.Common.{◌≡◌, ℕ, ◌+◌, ◌<◌, ◌≤◌, List, [], ◌∷◌, ◌++◌, length, get_or, take, drop, set, sym, ap, ◌∙◌, arith}
-use Rattle.std.proofs.lemmas.List.{append_assoc, append-nil, length-append, length-take-le, take_more_set}
-use Rattle.lines.specs.Line.{unescaped, untext, past}
-use Rattle.lines.specs.Texts.{untext_escaped, untext_plain, past_escaped, past_plain, untext_ends, past_ends, goes_on}
+use Rattle.std.proofs.Common.{◌≡◌, ℕ, ◌<◌, ◌≤◌, List, [], ◌∷◌, ◌++◌, length, get_or, sym, ap, ◌∙◌, arith}
+use Rattle.std.proofs.lemmas.List.{append_assoc, append-nil, length-append}
+use Rattle.lines.specs.Line.{untext, past}
+use Rattle.lines.specs.Texts.{untext_ends, past_ends, goes_on}
+use Rattle.lines.specs.Parts.{Found}
 
-abbrev pub ReadSoFar : List ℕ → List ℕ → ℕ → List ℕ → Type 0
-ReadSoFar bytes buffer n rest = (n ≤ length buffer) × (untext 0 bytes ≡ take n buffer ++ untext 0 rest) × (past 0 bytes ≡ past 0 rest)
+-- what is held so far is the front of the text, and what is left tells the others
+pub record ReadSoFar (bytes held rest : List ℕ) : Type 0 where
+  pub text : untext 0 bytes ≡ held ++ untext 0 rest
+  pub after : past 0 bytes ≡ past 0 rest
 
-grown : (n x : ℕ) (text more more' buffer buffer' : List ℕ) → n < length buffer → buffer' ≡ set buffer n x → more ≡ x ∷ more' → text ≡ take n buffer ++ more → text ≡ take (n + 1) buffer' ++ more'
-grown n x text more more' buffer buffer' l b m t =
-    t ∙ (ap (λ z. take n buffer ++ z) m ∙ (sym (append_assoc (take n buffer) (x ∷ []) more') ∙ ap (λ z. z ++ more') (sym (take_more_set buffer n x l) ∙ ap (take (n + 1)) (sym b))))
+pub one_more : (bytes held held' rest rest' : List ℕ) (b : ℕ) → ReadSoFar bytes held rest → held' ≡ held ++ b ∷ [] → untext 0 rest ≡ b ∷ untext 0 rest' → past 0 rest ≡ past 0 rest' → ReadSoFar bytes held' rest'
+one_more bytes held held' rest rest' b so h u p = record {
+  text = so.text ∙ (ap (λ z. held ++ z) u ∙ (sym (append_assoc held (b ∷ []) (untext 0 rest')) ∙ ap (λ z. z ++ untext 0 rest') (sym h)));
+  after = so.after ∙ p;
+}
 
-pub one_escaped : (bytes buffer buffer' rest rest' : List ℕ) (n : ℕ) → ReadSoFar bytes buffer n rest → n < length buffer → 32 < get_or rest 0 0 → get_or rest 0 0 ≡ 92
-    → length buffer' ≡ length buffer → buffer' ≡ set buffer n (unescaped (get_or rest 1 0) (get_or rest 2 0)) → rest' ≡ drop 3 rest → ReadSoFar bytes buffer' (n + 1) rest'
-one_escaped bytes buffer buffer' rest rest' n so l h e k b r = (
-  omega arith,
-  grown n (unescaped (get_or rest 1 0) (get_or rest 2 0)) (untext 0 bytes) (untext 0 rest) (untext 0 rest') buffer buffer' l b (untext_escaped rest h e ∙ ap (λ z. unescaped (get_or rest 1 0) (get_or rest 2 0) ∷ untext 0 z) (sym r)) so.1,
-  so.2 ∙ (past_escaped rest h e ∙ ap (past 0) (sym r)),
-)
+pub too_long : (bytes held rest : List ℕ) → ReadSoFar bytes held rest → 32 < get_or rest 0 0 → length held < length (untext 0 bytes)
+too_long bytes held rest so h = omega (arith, ap length so.text, length-append held (untext 0 rest), (goes_on rest h).1)
 
-pub one_plain : (bytes buffer buffer' rest rest' : List ℕ) (n : ℕ) → ReadSoFar bytes buffer n rest → n < length buffer → 32 < get_or rest 0 0 → (get_or rest 0 0 ≡ 92 → ⊥)
-    → length buffer' ≡ length buffer → buffer' ≡ set buffer n (get_or rest 0 0) → rest' ≡ drop 1 rest → ReadSoFar bytes buffer' (n + 1) rest'
-one_plain bytes buffer buffer' rest rest' n so l h e k b r = (
-  omega arith,
-  grown n (get_or rest 0 0) (untext 0 bytes) (untext 0 rest) (untext 0 rest') buffer buffer' l b (untext_plain rest h e ∙ ap (λ z. get_or rest 0 0 ∷ untext 0 z) (sym r)) so.1,
-  so.2 ∙ (past_plain rest h e ∙ ap (past 0) (sym r)),
-)
-
-pub too_long : (bytes buffer rest : List ℕ) (n : ℕ) → ReadSoFar bytes buffer n rest → n ≡ length buffer → 32 < get_or rest 0 0 → length buffer < length (untext 0 bytes)
-too_long bytes buffer rest n so k h =
-    omega (arith, ap length so.1, length-append (take n buffer) (untext 0 rest), length-take-le n buffer so.0, (goes_on rest h).1)
-
-pub all_read : (bytes buffer rest : List ℕ) (n : ℕ) → ReadSoFar bytes buffer n rest → get_or rest 0 0 < 33 → (take n buffer ≡ untext 0 bytes) × (rest ≡ past 0 bytes)
-all_read bytes buffer rest n so h =
-    (sym (append-nil (take n buffer)) ∙ (ap (λ z. take n buffer ++ z) (sym (untext_ends rest h)) ∙ sym so.1), sym (so.2 ∙ past_ends rest h))
+pub all_read : (bytes held rest : List ℕ) → ReadSoFar bytes held rest → get_or rest 0 0 ≤ 32 → Found (untext 0 bytes) (past 0 bytes) held rest
+all_read bytes held rest so h =
+    let e : get_or rest 0 0 < 33 = omega arith in
+    record { text = sym (so.text ∙ (ap (λ z. held ++ z) (untext_ends rest e) ∙ append-nil held)); rest = sym (so.after ∙ past_ends rest e) }

@@ -1,5 +1,6 @@
 -- What a line reader means.
-use Rattle.std.specs.Prelude.{◌≡◌, ℕ, cond, List, Some, None, Option}
+use Rattle.std.specs.Prelude.{◌≡◌, ℕ, List, None, Option}
+use Rattle.std.specs.Option.{option_map}
 use Rattle.model.specs.Events.{Ev}
 use Rattle.model.specs.Reading.{reading, read_all, events_of, fault_number, write_all}
 use Rattle.model.proofs.Readings.{coming_allowed}
@@ -11,7 +12,7 @@ use Rattle.lines.specs.Telling.{ev_told}
 
 -- the latest event, if there was one
 abbrev pub latest_of : LineReader → Option Ev
-latest_of r = cond r.started (Some (ev_told r.latest)) None
+latest_of r = option_map ev_told r.latest
 
 abbrev pub flow_of : LineReader → Flow
 flow_of r = record { latest = latest_of r; coming = reading line_front 0 r.place r.count r.rest.now }

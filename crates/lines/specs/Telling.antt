@@ -1,14 +1,16 @@
 -- The event that a line tells.
-use Rattle.std.specs.Prelude.{◌≡◌, ℕ, Bool, true, false, List, take}
-use Rattle.model.specs.Events.{Ev, allowed}
+use Rattle.std.specs.Prelude.{◌≡◌, false, List, ℕ, Ok, Err, Result}
+use Rattle.model.specs.declared.Cause.{Cause}
+use Rattle.model.specs.declared.Cause.TheVariants.{NotALine}
+use Rattle.model.specs.Events.{Ev}
 use Rattle.lines.specs.declared.told.Told.{Told}
-use Rattle.lines.specs.Line.{guess}
+use Rattle.lines.specs.Line.{guess, is_line_of}
 
 -- the event in its buffers
 abbrev pub ev_told : Told → Ev
-ev_told t = record { kind = t.kind; style = t.style; flags = t.flags; anchor = take t.anchor_length t.anchor; tag = take t.tag_length t.tag; value = take t.value_length t.value }
+ev_told t = record { kind = t.kind; style = t.style; flags = t.flags; anchor = t.anchor.items; tag = t.tag.items; value = t.value.items }
 
--- the buffers have the event that the bytes seem to tell, or it is not allowed
-abbrev pub Guessed : List ℕ → Told → Bool → Type 0
-Guessed bs t false = allowed (guess bs) ≡ false
-Guessed bs t true = ev_told t ≡ guess bs
+-- the buffers have the event that the bytes seem to tell, or the bytes do not begin with the line of that event
+abbrev pub Guessed : List ℕ → Told → Result (Unit {0}) Cause → Type 0
+Guessed bs t (Ok u) = ev_told t ≡ guess bs
+Guessed bs t (Err c) = (c ≡ NotALine) × (is_line_of (guess bs) bs ≡ false)

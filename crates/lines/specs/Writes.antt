@@ -44,9 +44,6 @@ store_onward s t u xs ys p q = record {
   used = q.used ∙ p.used;
 }
 
-pub store_falls : (s t : LineWriter) (xs : List ℕ) → Stored s xs t → unwritten s ≤ unwritten t + length xs
-store_falls s t xs p = omega (arith, p.place, ap length p.slice, length_puts s.out.now s.at xs)
-
 -- the bytes that a writer leaves hold exactly the events taken: they are what is written for them, and a reader finds them and then nothing
 pub record Finished (w : LineWriter) (bytes : List ℕ) : Type 0 where
   pub written : bytes ≡ write_all line_of (view_of w).taken

@@ -1,36 +1,48 @@
 // How a byte of a text stands in a line.
-ghost use Rattle.std.specs.Prelude.{◌≡◌, ◌<◌};
-ghost use Rattle.lines.specs.Line.{escapes as is_escaped, hex as hex_digit, unhex as hex_value, unescaped};
+ghost use Rattle.std.specs.Prelude.{◌≡◌, ◌<◌, ◌/◌, ◌%◌, [], ◌∷◌, MatchOption};
+ghost use Rattle.lines.specs.Line.{escapes as is_escaped, escape_byte, hex as hex_digit, unhex as hex_value, unescaped};
+
+// The hexadecimal digit of a number below 16.
+fn digit(n: u8) -> u8
+    requires { n < 16 }
+    ensures { result ≡ hex_digit n }
+{
+    if n < 10 { b'0' + n } else { b'A' - 10 + n }
+}
+
+// The two hexadecimal digits of a byte, 0 to 9 and A to F.
+pub fn hex(byte: u8) -> [u8; 2]
+    ensures { result ≡ hex_digit (byte / 16) ∷ hex_digit (byte % 16) ∷ [] }
+{
+    [digit(byte / 16), digit(byte % 16)]
+}
 
 // Whether a byte of a text is written as a backslash and two digits.
-pub fn escapes(byte: u8) -> bool
+fn escapes(byte: u8) -> bool
     ensures { result ≡ is_escaped byte }
 {
     byte < 33 || byte > 126 || byte == b'\\'
 }
 
-// The hexadecimal digit of a number below 16.
-pub fn hex(digit: u8) -> u8
-    requires { digit < 16 }
-    ensures { result ≡ hex_digit digit }
+// A backslash and the two digits of a byte that does not stand in a line as it is; none for one that does.
+pub fn escape(byte: u8) -> Option<[u8; 3]>
+    ensures { MatchOption result (escape_byte byte ≡ byte ∷ []) (λ escaped. escape_byte byte ≡ escaped) }
 {
-    if digit < 10 {
-        b'0' + digit
-    } else {
-        b'A' - 10 + digit
+    if !escapes(byte) {
+        return None;
     }
+    let [high, low] = hex(byte);
+    Some([b'\\', high, low])
 }
 
 // The number of a hexadecimal digit; of any other byte, some number.
-pub fn unhex(digit: u8) -> u8
+fn unhex(digit: u8) -> u8
     ensures { result ≡ hex_value digit }
 {
     if digit >= b'A' {
         digit - (b'A' - 10)
-    } else if digit >= b'0' {
-        digit - b'0'
     } else {
-        0
+        digit.saturating_sub(b'0')
     }
 }
 
@@ -38,5 +50,5 @@ pub fn unhex(digit: u8) -> u8
 pub fn unescape(high: u8, low: u8) -> u8
     ensures { result ≡ unescaped high low }
 {
-    ((16 * unhex(high) as u16 + unhex(low) as u16) % 256) as u8
+    unhex(high).wrapping_mul(16).wrapping_add(unhex(low))
 }

@@ -2,17 +2,15 @@
 ghost use Rattle.std.specs.Prelude.{◌≡◌, true};
 ghost use Rattle.model.specs.Events.{allowed};
 ghost use Rattle.yaml.specs.Shapes.{ev_of};
-ghost use Rattle.lines.specs.Pens.{Compared, unbounded, compare_nothing, compare_onward, compare_falls, line_within};
+ghost use Rattle.lines.specs.Pens.{Compared, unbounded, compare_nothing, compare_onward, LineWithin};
 
 use crate::pen::{Pen, write_line};
 use yaml::Event;
 
-// The bytes to compare with, how many of them came, and whether all that came were those.
+// The bytes that are still to come, as long as all that came were those to compare with.
 #[derive(Drop)]
 pub struct Compare<'a> {
-    pub bytes: &'a [u8],
-    pub at: usize,
-    pub same: bool,
+    pub left: Option<&'a [u8]>,
 }
 
 impl<'a> Pen for Compare<'a> {
@@ -24,27 +22,21 @@ impl<'a> Pen for Compare<'a> {
 
     ghost onward = { compare_onward };
 
-    ghost falls = { compare_falls };
-
     fn put(&mut self, byte: u8) {
-        if self.same && self.at < self.bytes.len() && self.bytes[self.at] == byte {
-            self.at += 1;
-        } else {
-            self.same = false;
-        }
+        self.left = match self.left {
+            Some([first, rest @ ..]) if *first == byte => Some(rest),
+            _ => None,
+        };
     }
 }
 
 // The size of an event's line, if the bytes begin with it.
 pub fn line_within(e: &Event<'_>, bytes: &[u8]) -> Option<usize>
     requires { allowed (ev_of e.now) ≡ true }
-    ensures { result ≡ line_within (ev_of e.now) bytes.now }
+    ensures { LineWithin (ev_of e.now) bytes.now result }
 {
-    let mut compare = Compare {
-        bytes,
-        at: 0,
-        same: true,
-    };
+    let mut compare = Compare { left: Some(bytes) };
     write_line(&mut compare, e);
-    if compare.same { Some(compare.at) } else { None }
+    let left = compare.left?;
+    Some(bytes.len() - left.len())
 }

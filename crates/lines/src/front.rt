@@ -5,34 +5,24 @@ ghost use Rattle.lines.specs.Ends.{front_of, Inside};
 
 use crate::compare::line_within;
 use crate::told::Told;
-use crate::told::event::{event, guess};
+use yaml::Cause;
 use yaml::event::allowed;
 
-// Nothing where there is no byte, a line and the number of its bytes, or what is no line.
-#[derive(Clone, Copy)]
-pub enum Front {
-    Nothing,
-    Line { size: usize },
-    NotALine,
-}
-
-// Reads the line at the front; its event is told.
-pub fn read_front(rest: &[u8], told: &mut Told) -> Front
+// Reads the line at the front, whose event is told, and answers how many bytes it has; none where there is no byte.
+pub fn read_front(rest: &[u8], told: &mut Told) -> Result<Option<usize>, Cause>
     ensures front { front_of told.new result ≡ line_front rest.now }
     ensures inside { Inside result (length rest.now) }
 {
-    if rest.len() == 0 {
-        return Front::Nothing;
+    if rest.is_empty() {
+        return Ok(None);
     }
-    if !guess(rest, told) {
-        return Front::NotALine;
-    }
-    let seeming = event(told);
+    told.read(rest)?;
+    let seeming = told.event();
     if !allowed(&seeming) {
-        return Front::NotALine;
+        return Err(Cause::NotALine);
     }
     match line_within(&seeming, rest) {
-        Some(size) => Front::Line { size },
-        None => Front::NotALine,
+        Some(size) => Ok(Some(size)),
+        None => Err(Cause::NotALine),
     }
 }

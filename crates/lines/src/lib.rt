@@ -11,5 +11,6 @@ pub mod reader;
 mod told;
 pub mod writer;
 
+pub use byte::{escape, hex};
 pub use reader::LineReader;
 pub use writer::LineWriter;

@@ -1,68 +1,61 @@
 // Reading the parts of a line that carry a text.
-ghost use Rattle.std.specs.Prelude.{◌≡◌, drop, slice_index};
+ghost use Rattle.std.specs.Prelude.{◌≡◌, ◌≤◌, drop, slice_index, []};
 ghost use Rattle.lines.specs.Line.{untext, past, part_text, part_rest};
 ghost use Rattle.lines.specs.Parts.{ReadPart};
 
 use crate::byte::unescape;
+use arrayvec::ArrayVec;
+use yaml::Cause;
 
-// The length of a text that was read into a buffer, and what follows the text.
-#[derive(Clone, Copy)]
-pub struct Part<'a> {
-    pub length: usize,
-    pub rest: &'a [u8],
-}
-
-// The byte at a place; past the end, 0.
-pub fn byte_at(bytes: &[u8], i: usize) -> u8
+// The byte at a place; past the end, 0, as the definition of an escaped text has it.
+fn byte_at(bytes: &[u8], i: usize) -> u8
     ensures { result ≡ slice_index bytes.now i }
 {
-    if i < bytes.len() { bytes[i] } else { 0 }
+    bytes.get(i).copied().unwrap_or_default()
 }
 
 // What follows the first n bytes.
-pub fn skip(bytes: &[u8], n: usize) -> &[u8]
+fn skip(bytes: &[u8], n: usize) -> &[u8]
     ensures { result.now ≡ drop n bytes.now }
 {
-    if n < bytes.len() {
-        &bytes[n..]
-    } else {
-        &bytes[bytes.len()..]
-    }
+    bytes.get(n..).unwrap_or_default()
 }
 
-// Reads an escaped text, up to the first byte below 33 or the end, into a buffer; none if it does not fit there.
-fn read_text<'a>(bytes: &'a [u8], buffer: &mut [u8]) -> Option<Part<'a>>
-    ensures { ReadPart (untext 0 bytes.now) (past 0 bytes.now) buffer.new result }
+// Reads an escaped text, up to the first byte below 33 or the end, and answers what follows it; there is no line where it does not fit.
+fn read_text<'a, const N: usize>(
+    bytes: &'a [u8],
+    text: &mut ArrayVec<u8, N>,
+) -> Result<&'a [u8], Cause>
+    requires { text.old.items ≡ [] }
+    ensures { ReadPart N (untext 0 bytes.now) (past 0 bytes.now) text.new.items result }
 {
-    let mut length = 0;
     let mut rest = bytes;
-    while byte_at(rest, 0) > b' ' {
-        if length == buffer.len() {
-            return None;
+    'bytes: loop {
+        let (byte, size) = match byte_at(rest, 0) {
+            0..=b' ' => return Ok(rest),
+            b'\\' => (unescape(byte_at(rest, 1), byte_at(rest, 2)), 3),
+            plain => (plain, 1),
+        };
+        if text.is_full() {
+            return Err(Cause::NotALine);
         }
-        let first = byte_at(rest, 0);
-        if first == b'\\' {
-            buffer[length] = unescape(byte_at(rest, 1), byte_at(rest, 2));
-            rest = skip(rest, 3);
-        } else {
-            buffer[length] = first;
-            rest = skip(rest, 1);
-        }
-        length += 1;
+        text.push(byte);
+        rest = skip(rest, size);
     }
-    Some(Part { length, rest })
 }
 
-// Reads the text that stands behind a space and a mark; where there is none, a text of no bytes.
-pub fn read_part<'a>(bytes: &'a [u8], mark: u8, buffer: &mut [u8]) -> Option<Part<'a>>
-    ensures { ReadPart (part_text mark bytes.now) (part_rest mark bytes.now) buffer.new result }
+// Reads the text that stands behind a space and a mark, and answers what follows it; where there is none, a text of no bytes.
+pub fn read_part<'a, const N: usize>(
+    bytes: &'a [u8],
+    mark: u8,
+    text: &mut ArrayVec<u8, N>,
+) -> Result<&'a [u8], Cause>
+    requires { 1 ≤ mark }
+    ensures { ReadPart N (part_text mark bytes.now) (part_rest mark bytes.now) text.new.items result }
 {
-    if byte_at(bytes, 0) == b' ' && byte_at(bytes, 1) == mark {
-        read_text(skip(bytes, 2), buffer)
-    } else {
-        Some(Part {
-            length: 0,
-            rest: bytes,
-        })
+    text.clear();
+    match bytes {
+        [b' ', first, escaped @ ..] if *first == mark => read_text(escaped, text),
+        _ => Ok(bytes),
     }
 }

@@ -2,9 +2,9 @@
 ghost use Rattle.std.specs.Prelude.{◌≡◌, ℕ, ◌+◌, ◌≤◌, true, List, [], ◌∷◌, ◌++◌, length};
 ghost use Rattle.model.specs.Events.{allowed};
 ghost use Rattle.yaml.specs.Shapes.{ev_of};
-ghost use Rattle.lines.specs.Line.{word as word_of, escape_byte, escape, marked, optional, value_part, digits as digits_of, line_of};
+ghost use Rattle.lines.specs.Line.{word as word_of, escape_byte, escape as escape_text, marked, optional, value_part, digits as digits_of, line_of};
 
-use crate::byte::{escapes, hex};
+use crate::byte::escape;
 use model::EventKind;
 use yaml::Event;
 
@@ -20,17 +20,17 @@ pub trait Pen {
 
     ghost onward: { (s t u : Self) (xs ys : List ℕ) → wrote s xs t → wrote t ys u → wrote s (xs ++ ys) u };
 
-    ghost falls: { (s t : Self) (xs : List ℕ) → wrote s xs t → room s ≤ room t + length xs };
-
     fn put(&mut self, byte: u8)
         requires { 1 ≤ room self.old }
-        ensures { wrote self.old (byte ∷ []) self.new };
+        ensures wrote { wrote self.old (byte ∷ []) self.new }
+        ensures room { room self.old ≤ room self.new + 1 };
 }
 
 // Writes some bytes as they are.
 fn write_all<P: Pen>(pen: &mut P, bytes: &[u8])
     requires { length bytes.now ≤ P.Pen.room pen.old }
-    ensures { P.Pen.wrote pen.old bytes.now pen.new }
+    ensures wrote { P.Pen.wrote pen.old bytes.now pen.new }
+    ensures room { P.Pen.room pen.old ≤ P.Pen.room pen.new + length bytes.now }
 {
     for b in bytes {
         pen.put(*b);
@@ -40,20 +40,20 @@ fn write_all<P: Pen>(pen: &mut P, bytes: &[u8])
 // Writes a byte of a text.
 fn write_byte<P: Pen>(pen: &mut P, byte: u8)
     requires { length (escape_byte byte) ≤ P.Pen.room pen.old }
-    ensures { P.Pen.wrote pen.old (escape_byte byte) pen.new }
+    ensures wrote { P.Pen.wrote pen.old (escape_byte byte) pen.new }
+    ensures room { P.Pen.room pen.old ≤ P.Pen.room pen.new + length (escape_byte byte) }
 {
-    if escapes(byte) {
-        let escaped = [b'\\', hex(byte / 16), hex(byte % 16)];
-        write_all(pen, &escaped);
-    } else {
-        pen.put(byte);
+    match escape(byte) {
+        Some(escaped) => write_all(pen, &escaped),
+        None => pen.put(byte),
     }
 }
 
 // Writes a text.
 fn write_text<P: Pen>(pen: &mut P, text: &[u8])
-    requires { length (escape text.now) ≤ P.Pen.room pen.old }
-    ensures { P.Pen.wrote pen.old (escape text.now) pen.new }
+    requires { length (escape_text text.now) ≤ P.Pen.room pen.old }
+    ensures wrote { P.Pen.wrote pen.old (escape_text text.now) pen.new }
+    ensures room { P.Pen.room pen.old ≤ P.Pen.room pen.new + length (escape_text text.now) }
 {
     for b in text {
         write_byte(pen, *b);
@@ -62,20 +62,21 @@ fn write_text<P: Pen>(pen: &mut P, text: &[u8])
 
 // Writes a text behind a space and its mark.
 fn write_part<P: Pen>(pen: &mut P, mark: u8, text: &[u8])
-    requires { 2 + length (escape text.now) ≤ P.Pen.room pen.old }
-    ensures { P.Pen.wrote pen.old (marked mark text.now) pen.new }
+    requires { 2 + length (escape_text text.now) ≤ P.Pen.room pen.old }
+    ensures wrote { P.Pen.wrote pen.old (marked mark text.now) pen.new }
+    ensures room { P.Pen.room pen.old ≤ P.Pen.room pen.new + length (marked mark text.now) }
 {
-    let front = [b' ', mark];
-    write_all(pen, &front);
+    write_all(pen, &[b' ', mark]);
     write_text(pen, text);
 }
 
 // Writes an anchor or a tag; of one that is absent, nothing.
 fn write_optional<P: Pen>(pen: &mut P, mark: u8, text: &[u8])
     requires { length (optional mark text.now) ≤ P.Pen.room pen.old }
-    ensures { P.Pen.wrote pen.old (optional mark text.now) pen.new }
+    ensures wrote { P.Pen.wrote pen.old (optional mark text.now) pen.new }
+    ensures room { P.Pen.room pen.old ≤ P.Pen.room pen.new + length (optional mark text.now) }
 {
-    if text.len() > 0 {
+    if !text.is_empty() {
         write_part(pen, mark, text);
     }
 }
@@ -83,19 +84,11 @@ fn write_optional<P: Pen>(pen: &mut P, mark: u8, text: &[u8])
 // Writes the value of a scalar; of any other event, nothing.
 fn write_value<P: Pen>(pen: &mut P, kind: EventKind, text: &[u8])
     requires { length (value_part kind text.now) ≤ P.Pen.room pen.old }
-    ensures { P.Pen.wrote pen.old (value_part kind text.now) pen.new }
+    ensures wrote { P.Pen.wrote pen.old (value_part kind text.now) pen.new }
+    ensures room { P.Pen.room pen.old ≤ P.Pen.room pen.new + length (value_part kind text.now) }
 {
-    match kind {
-        EventKind::Scalar => write_part(pen, b':', text),
-        EventKind::StreamStart => {}
-        EventKind::StreamEnd => {}
-        EventKind::DocumentStart => {}
-        EventKind::DocumentEnd => {}
-        EventKind::Alias => {}
-        EventKind::SequenceStart => {}
-        EventKind::SequenceEnd => {}
-        EventKind::MappingStart => {}
-        EventKind::MappingEnd => {}
+    if kind == EventKind::Scalar {
+        write_part(pen, b':', text);
     }
 }
 
@@ -118,22 +111,25 @@ fn word(kind: EventKind) -> [u8; 4]
 }
 
 // Writes the word, the style and the flags.
-fn write_head<P: Pen>(pen: &mut P, kind: EventKind, style: u8, flags: u8)
-    requires { (style ≤ 9) × ((flags ≤ 9) × (8 ≤ P.Pen.room pen.old)) }
-    ensures { P.Pen.wrote pen.old (word_of kind ++ digits_of style flags) pen.new }
+fn write_head<P: Pen>(pen: &mut P, e: &Event<'_>)
+    requires digits { (e.now.style ≤ 9) × (e.now.flags ≤ 9) }
+    requires room { 8 ≤ P.Pen.room pen.old }
+    ensures wrote { P.Pen.wrote pen.old (word_of e.now.kind ++ digits_of e.now.style e.now.flags) pen.new }
+    ensures room { P.Pen.room pen.old ≤ P.Pen.room pen.new + 8 }
 {
-    let word = word(kind);
-    write_all(pen, &word);
-    let digits = [b' ', b'0' + style, b' ', b'0' + flags];
-    write_all(pen, &digits);
+    write_all(pen, &word(e.kind));
+    write_all(pen, &[b' ', b'0' + e.style, b' ', b'0' + e.flags]);
 }
 
 // Writes the line of an event.
+#[tactic(auto, using(crate::specs::Lawful::length_line))]
 pub fn write_line<P: Pen>(pen: &mut P, e: &Event<'_>)
-    requires { (allowed (ev_of e.now) ≡ true) × (length (line_of (ev_of e.now)) ≤ P.Pen.room pen.old) }
-    ensures { P.Pen.wrote pen.old (line_of (ev_of e.now)) pen.new }
+    requires allowed { allowed (ev_of e.now) ≡ true }
+    requires room { length (line_of (ev_of e.now)) ≤ P.Pen.room pen.old }
+    ensures wrote { P.Pen.wrote pen.old (line_of (ev_of e.now)) pen.new }
+    ensures room { P.Pen.room pen.old ≤ P.Pen.room pen.new + length (line_of (ev_of e.now)) }
 {
-    write_head(pen, e.kind, e.style, e.flags);
+    write_head(pen, e);
     write_optional(pen, b'&', e.anchor);
     write_optional(pen, b'<', e.tag);
     write_value(pen, e.kind, e.value);

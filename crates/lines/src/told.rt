@@ -1,23 +1,134 @@
-// An event that a line tells, with its texts in buffers of its own.
-ghost use Rattle.std.specs.Prelude.{◌≤◌, length};
+// The event that a line tells, with its texts in buffers of its own.
+ghost use Rattle.std.specs.Prelude.{◌≡◌, length, ◌≤◌};
+ghost use Rattle.yaml.specs.Shapes.{ev_of, head_of, text_of};
+ghost use Rattle.lines.specs.Line.{seeming_kind};
 
+use crate::part::read_part;
+use arrayvec::ArrayVec;
 use model::EventKind;
 use yaml::event::{MAX_ANCHOR, MAX_TAG, MAX_VALUE};
+use yaml::{Cause, Event, Head, Mark, Text};
 
-pub mod event;
-
-#[derive(Clone, Copy)]
+#[derive(Drop)]
 pub struct Told {
-    pub kind: EventKind,
-    pub style: u8,
-    pub flags: u8,
-    pub anchor: [u8; MAX_ANCHOR],
-    pub anchor_length: usize,
-    pub tag: [u8; MAX_TAG],
-    pub tag_length: usize,
-    pub value: [u8; MAX_VALUE],
-    pub value_length: usize,
-    ghost anchor_fits: { anchor_length ≤ length anchor },
-    ghost tag_fits: { tag_length ≤ length tag },
-    ghost value_fits: { value_length ≤ length value },
+    kind: EventKind,
+    style: u8,
+    flags: u8,
+    anchor: ArrayVec<u8, MAX_ANCHOR>,
+    tag: ArrayVec<u8, MAX_TAG>,
+    value: ArrayVec<u8, MAX_VALUE>,
+}
+
+// The kind that the first and the fourth byte of a line seem to tell.
+fn seeming_kind(sign: u8, letter: u8) -> EventKind
+    ensures { result ≡ seeming_kind sign letter }
+{
+    match (letter, sign) {
+        (b'R', b'+') => EventKind::StreamStart,
+        (b'R', _) => EventKind::StreamEnd,
+        (b'C', b'+') => EventKind::DocumentStart,
+        (b'C', _) => EventKind::DocumentEnd,
+        (b'I', _) => EventKind::Alias,
+        (b'L', _) => EventKind::Scalar,
+        (b'Q', b'+') => EventKind::SequenceStart,
+        (b'Q', _) => EventKind::SequenceEnd,
+        (_, b'+') => EventKind::MappingStart,
+        _ => EventKind::MappingEnd,
+    }
+}
+
+// Makes a text the copy of some bytes.
+fn copy<const N: usize>(bytes: &[u8], text: &mut ArrayVec<u8, N>)
+    requires { length bytes.now ≤ N }
+    ensures { text.new.items ≡ bytes.now }
+{
+    text.clear();
+    text.try_extend_from_slice(bytes).unwrap();
+}
+
+impl Told {
+    ghost use Rattle.lines.specs.Telling.{ev_told, Guessed};
+
+    // Reads the event that the bytes seem to tell; they are no line where there are too few of them, or a text is longer than any event's.
+    pub fn read(&mut self, bytes: &[u8]) -> Result<(), Cause>
+        ensures { Guessed bytes.now self.new result }
+    {
+        let [sign, _, _, letter, _, style, _, flags, parts @ ..] = bytes else {
+            return Err(Cause::NotALine);
+        };
+        self.kind = seeming_kind(*sign, *letter);
+        self.style = style.saturating_sub(b'0');
+        self.flags = flags.saturating_sub(b'0');
+        let parts = read_part(parts, b'&', &mut self.anchor)?;
+        let parts = read_part(parts, b'<', &mut self.tag)?;
+        read_part(parts, b':', &mut self.value)?;
+        Ok(())
+    }
+
+    // The event, with its texts lent.
+    pub fn event(&self) -> Event<'_>
+        ensures { ev_of result ≡ ev_told self.now }
+    {
+        Event {
+            kind: self.kind,
+            style: self.style,
+            flags: self.flags,
+            anchor: self.anchor.as_slice(),
+            tag: self.tag.as_slice(),
+            value: self.value.as_slice(),
+        }
+    }
+
+    // What a source tells at once of the event, between two marks.
+    pub fn head(&self, start: Mark, end: Mark) -> Head
+        ensures { result ≡ head_of (record { event = ev_told self.now; start = start; end = end }) }
+    {
+        Head {
+            kind: self.kind,
+            style: self.style,
+            flags: self.flags,
+            anchor: self.anchor.len(),
+            tag: self.tag.len(),
+            value: self.value.len(),
+            start,
+            end,
+        }
+    }
+
+    // One of the event's texts.
+    pub fn text(&self, text: Text) -> &[u8]
+        ensures { result.now ≡ text_of text (ev_told self.now) }
+    {
+        match text {
+            Text::Anchor => self.anchor.as_slice(),
+            Text::Tag => self.tag.as_slice(),
+            Text::Value => self.value.as_slice(),
+        }
+    }
+
+    // Becomes the copy of another; of the buffers, only what its texts take up is copied.
+    pub fn copy_from(&mut self, other: &Told)
+        ensures { self.new ≡ other.now }
+    {
+        self.kind = other.kind;
+        self.style = other.style;
+        self.flags = other.flags;
+        copy(other.anchor.as_slice(), &mut self.anchor);
+        copy(other.tag.as_slice(), &mut self.tag);
+        copy(other.value.as_slice(), &mut self.value);
+    }
+}
+
+// Before any event was told.
+impl Default for Told {
+    fn default() -> Self {
+        Told {
+            kind: EventKind::StreamStart,
+            style: 0,
+            flags: 0,
+            anchor: ArrayVec::new(),
+            tag: ArrayVec::new(),
+            value: ArrayVec::new(),
+        }
+    }
 }

@@ -1,13 +1,12 @@
 // The line reader is a source.
-ghost use Rattle.std.specs.Prelude.{◌≡◌, ◌≤◌, length, take};
-ghost use Rattle.yaml.specs.Flow.{byte_at};
+ghost use Rattle.std.specs.Prelude.{◌≡◌};
 ghost use Rattle.lines.specs.Line.{Refuses};
 ghost use Rattle.lines.specs.Reads.{flow_of, sound as sound_of, Made, WrittenBack};
 
 use super::LineReader;
-use crate::front::{Front, read_front};
-use crate::told::event::{copy, untold};
-use yaml::{Cause, Fault, Head, Mark, Source, Text};
+use crate::front::read_front;
+use crate::told::Told;
+use yaml::{Fault, Head, Mark, Source, Text};
 
 impl<'a> LineReader<'a> {
     // A reader of these bytes, before their first line.
@@ -20,19 +19,24 @@ impl<'a> LineReader<'a> {
             rest: bytes,
             place: 0,
             count: 0,
-            started: false,
-            latest: untold(),
-            next: untold(),
+            latest: None,
+            next: Told::default(),
         }
     }
 }
 
-// A byte of the text that the first bytes of a buffer hold.
-fn byte_of(buffer: &[u8], count: usize, i: usize) -> Option<u8>
-    requires { count ≤ length buffer.now }
-    ensures { result ≡ byte_at (take count buffer.now) i }
+// Makes the event that is held the copy of another; the buffers for it are made once.
+fn hold(held: &mut Option<Told>, told: &Told)
+    ensures { held.new ≡ Some told.now }
 {
-    if i < count { Some(buffer[i]) } else { None }
+    match held {
+        Some(held) => held.copy_from(told),
+        None => {
+            let mut first = Told::default();
+            first.copy_from(told);
+            *held = Some(first);
+        }
+    }
 }
 
 impl<'a> Source for LineReader<'a> {
@@ -42,12 +46,12 @@ impl<'a> Source for LineReader<'a> {
 
     fn next_event(&mut self) -> Result<Option<Head>, Fault> {
         match read_front(self.rest, &mut self.next) {
-            Front::Nothing => Ok(None),
-            Front::NotALine => Err(Fault {
-                cause: Cause::NotALine,
+            Ok(None) => Ok(None),
+            Err(cause) => Err(Fault {
+                cause,
                 place: self.place,
             }),
-            Front::Line { size } => {
+            Ok(Some(size)) => {
                 let start = Mark {
                     index: self.place,
                     line: self.count,
@@ -61,31 +65,14 @@ impl<'a> Source for LineReader<'a> {
                 self.rest = &self.rest[size..];
                 self.place = end.index;
                 self.count += 1;
-                self.started = true;
-                copy(&self.next, &mut self.latest);
-                Ok(Some(Head {
-                    kind: self.next.kind,
-                    style: self.next.style,
-                    flags: self.next.flags,
-                    anchor: self.next.anchor_length,
-                    tag: self.next.tag_length,
-                    value: self.next.value_length,
-                    start,
-                    end,
-                }))
+                hold(&mut self.latest, &self.next);
+                Ok(Some(self.next.head(start, end)))
             }
         }
     }
 
     fn byte(&self, text: Text, i: usize) -> Option<u8> {
-        if !self.started {
-            return None;
-        }
-        let told = &self.latest;
-        match text {
-            Text::Anchor => byte_of(&told.anchor, told.anchor_length, i),
-            Text::Tag => byte_of(&told.tag, told.tag_length, i),
-            Text::Value => byte_of(&told.value, told.value_length, i),
-        }
+        let told = self.latest.as_ref()?;
+        told.text(text).get(i).copied()
     }
 }

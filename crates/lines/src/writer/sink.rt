@@ -2,7 +2,7 @@
 ghost use Rattle.std.specs.Prelude.{◌≡◌, [], length};
 ghost use Rattle.lines.specs.Line.{Short};
 ghost use Rattle.lines.specs.Pens.{weight_of};
-ghost use Rattle.lines.specs.Writes.{view_of, weighs as weighs_of, Stored, unwritten, store_nothing, store_onward, store_falls, Finished};
+ghost use Rattle.lines.specs.Writes.{view_of, weighs as weighs_of, Stored, unwritten, store_nothing, store_onward, Finished};
 
 use super::LineWriter;
 use crate::count::line_size;
@@ -40,8 +40,6 @@ impl<'a> Pen for LineWriter<'a> {
     ghost nothing = { store_nothing };
 
     ghost onward = { store_onward };
-
-    ghost falls = { store_falls };
 
     fn put(&mut self, byte: u8) {
         self.out[self.at] = byte;

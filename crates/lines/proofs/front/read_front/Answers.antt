@@ -1,35 +1,40 @@
-use Rattle.std.proofs.Common.{◌≡◌, length, sym, ap, ◌∙◌, ap₂, arith}
-use Rattle.model.specs.Events.{Ev, allowed}
+use Rattle.std.proofs.Common.{◌≡◌, sym, ap, ◌∙◌, arith}
+use Rattle.std.proofs.lemmas.Bool.{eqb-true, eqb-false, and_left, and_right}
+use Rattle.std.proofs.lemmas.Result.{err_from_is_err_and}
+use Rattle.model.specs.Events.{allowed}
 use Rattle.model.specs.Reading.{event}
 use Rattle.yaml.specs.Shapes.{ev_of}
 use Rattle.lines.specs.Line.{line_of, starts_with, guess, line_front}
 use Rattle.lines.specs.Telling.{ev_told}
-use Rattle.lines.proofs.Fronting.{no_bytes, not_allowed, not_same, a_line, within_some, within_none, line_inside}
+use Rattle.lines.proofs.Fronting.{no_bytes, no_line, a_line, line_inside}
 use Rattle.lines.proofs.front.read_front.Goals as goal
 
-pub returns-then-rest-eq0 : goal.returns-then-rest-eq0
-returns-then-rest-eq0 c = record { front = no_bytes c.args.rest.now (omega arith); inside = tt }
+pub returns-then-is_empty-clause-front : goal.returns-then-is_empty-clause-front
+returns-then-is_empty-clause-front c = no_bytes c.args.rest.now (eqb-true _ _ (sym c.if-is_empty.ensures))
 
-pub returns-then-not-guess : goal.returns-then-not-guess
-returns-then-not-guess c = record { front = not_allowed c.args.rest.now (omega arith) c.if-not-guess.ensures; inside = tt }
+pub returns-in_err-read-clause-front : goal.returns-in_err-read-clause-front
+returns-in_err-read-clause-front c =
+    let p = err_from_is_err_and c.from_residual.result c.from_residual.ensures.1 in
+    let e = c.in_err-read.ensures in
+    rw (p.1, p.2, e.0) (no_line c.args.rest.now (omega (arith, eqb-false _ _ (sym c.if-is_empty.ensures))) e.1)
 
-pub returns-then-not-allowed : goal.returns-then-not-allowed
-returns-then-not-allowed c = record {
-  front = not_allowed c.args.rest.now (omega arith) (ap allowed (sym c.if-not-guess.ensures) ∙ (ap allowed (sym c.event-seeming.ensures) ∙ sym c.if-not-allowed.ensures));
-  inside = tt;
-}
+pub returns-then-not-allowed-clause-front : goal.returns-then-not-allowed-clause-front
+returns-then-not-allowed-clause-front c =
+    let bs = c.args.rest.now in
+    let a : allowed (guess bs) ≡ _ = ap allowed (sym c.in_ok-read.ensures) ∙ (ap allowed (sym c.event-seeming.ensures) ∙ sym c.if-not-allowed.ensures) in
+    no_line bs (omega (arith, eqb-false _ _ (sym c.if-is_empty.ensures))) (and_left (allowed (guess bs)) _ a)
 
 pub returns-in-Some : goal.returns-in-Some
 returns-in-Some c =
     let bs = c.args.rest.now in
-    let e : Ev = ev_of c.event-seeming.result in
-    let g : e ≡ guess bs = c.event-seeming.ensures ∙ c.if-not-guess.ensures in
-    let w = within_some (starts_with (line_of e) bs) c.in-Some.size (length (line_of e)) c.in-Some.ensures in
-    let at : event (ev_told c.guess.new.told) c.in-Some.size ≡ line_front bs = ap₂ event (sym c.event-seeming.ensures) w.1 ∙ a_line bs e (omega arith) g (sym c.if-not-allowed.ensures) w.0 in
-    record { front = at; inside = line_inside (ev_told c.guess.new.told) c.in-Some.size bs at }
+    let n = c.in-Some.size in
+    let e = ev_told c.read.new.self in
+    let g = c.event-seeming.ensures ∙ c.in_ok-read.ensures in
+    let at : event e n ≡ line_front bs = ap (λ t. event t n) (sym c.event-seeming.ensures) ∙ a_line bs (ev_of c.event-seeming.result) n (omega (arith, eqb-false _ _ (sym c.if-is_empty.ensures))) g (sym c.if-not-allowed.ensures) c.in-Some.ensures in
+    record { front = at; inside = line_inside e n bs at }
 
-pub returns-in-None : goal.returns-in-None
-returns-in-None c =
+pub returns-in-None-clause-front : goal.returns-in-None-clause-front
+returns-in-None-clause-front c =
     let bs = c.args.rest.now in
-    let e : Ev = ev_of c.event-seeming.result in
-    record { front = not_same bs e (omega arith) (c.event-seeming.ensures ∙ c.if-not-guess.ensures) (within_none (starts_with (line_of e) bs) (length (line_of e)) c.in-None.ensures); inside = tt }
+    let g = c.event-seeming.ensures ∙ c.in_ok-read.ensures in
+    no_line bs (omega (arith, eqb-false _ _ (sym c.if-is_empty.ensures))) (and_right (allowed (guess bs)) _ (ap (λ e. starts_with (line_of e) bs) (sym g) ∙ c.in-None.ensures))

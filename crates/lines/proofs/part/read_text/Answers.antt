@@ -1,49 +1,33 @@
-use Rattle.std.proofs.Common.{◌≡◌, ◌<◌, length, get_or, drop, set, ap, ◌∙◌, arith}
-use Rattle.std.proofs.lemmas.List.{length-drop}
+use Rattle.std.proofs.Common.{◌≡◌, ◌<◌, get_or, drop, ap, ◌∙◌, sym, arith}
+use Rattle.std.proofs.lemmas.Bool.{eqb-true}
 use Rattle.lines.specs.Line.{unescaped}
-use Rattle.lines.specs.Texts.{goes_on}
-use Rattle.lines.proofs.Unescaping.{one_escaped, one_plain, too_long, all_read}
+use Rattle.lines.specs.Texts.{untext_escaped, untext_plain, past_escaped, past_plain}
+use Rattle.lines.proofs.Unescaping.{one_more, too_long, all_read}
 use Rattle.lines.proofs.part.read_text.Goals as goal
-use Rattle.lines.proofs.part.read_text.Goals.{then-first-eq92, else-first-eq92}
+use Rattle.lines.proofs.part.read_text.Goals.{in-92, in_default}
 
-pub loop-rest-smaller : goal.loop-rest-smaller
-loop-rest-smaller c =
-    let rest = c.loop-rest.rest.now in
-    let h : 32 < get_or rest 0 0 = omega (arith, c.byte_at.ensures, c.loop-rest-test.true) in
-    let some = (goes_on rest h).0 in
-    elim c.if-first-eq92.branch [
-      | then-first-eq92 w ↦ let r : c.if-first-eq92.rest.now ≡ drop 3 rest = cc in omega (arith, ap length r, length-drop 3 rest)
-      | else-first-eq92 w ↦ let r : c.if-first-eq92.rest.now ≡ drop 1 rest = cc in omega (arith, ap length r, length-drop 1 rest)
-    ]
+pub returns-in-0-to-32 : goal.returns-in-0-to-32
+returns-in-0-to-32 g c = all_read _ _ _ c.bytes.invariant (omega arith)
 
-pub loop-rest-preserved : goal.loop-rest-preserved
-loop-rest-preserved c =
-    let bytes = c.args.bytes.now in
-    let buffer = c.loop-rest.buffer in
-    let n = c.loop-rest.length in
-    let rest = c.loop-rest.rest.now in
-    let h : 32 < get_or rest 0 0 = omega (arith, c.byte_at.ensures, c.loop-rest-test.true) in
-    let l : n < length buffer = omega (arith, c.loop-rest.invariant.0, c.if-length-buffer.false) in
-    let k = c.if-first-eq92.auto.buffer in
-    elim c.if-first-eq92.branch [
-      | then-first-eq92 w ↦
-          let r : c.if-first-eq92.rest.now ≡ drop 3 rest = cc in
+pub returns-then-is_full : goal.returns-then-is_full
+returns-then-is_full g c =
+    let more : 32 < get_or c.bytes.rest.now 0 0 = elim c.match-byte_at.branch [ in-92 w ↦ omega arith | in_default w ↦ omega arith ] in
+    record { cause = cc; longer = omega (arith, too_long _ _ _ c.bytes.invariant more, eqb-true _ _ (sym c.if-is_full.ensures.value)) }
+
+pub bytes-preserved : goal.bytes-preserved
+bytes-preserved g c =
+    let rest = c.bytes.rest.now in
+    elim c.match-byte_at.branch [
+      | in-92 w ↦
           let e : get_or rest 0 0 ≡ 92 = cc in
-          let b : c.if-first-eq92.buffer ≡ set buffer n (unescaped (get_or rest 1 0) (get_or rest 2 0)) = cc in
-          one_escaped bytes buffer c.if-first-eq92.buffer rest c.if-first-eq92.rest.now n c.loop-rest.invariant l h e k b r
-      | else-first-eq92 w ↦
-          let r : c.if-first-eq92.rest.now ≡ drop 1 rest = cc in
-          let b : c.if-first-eq92.buffer ≡ set buffer n (get_or rest 0 0) = cc in
-          one_plain bytes buffer c.if-first-eq92.buffer rest c.if-first-eq92.rest.now n c.loop-rest.invariant l h (λ e. w.if-first-eq92.false (c.byte_at-first.ensures ∙ e)) k b r
+          let h : 32 < get_or rest 0 0 = omega arith in
+          let r : c.skip-rest.result.now ≡ drop 3 rest = c.skip-rest.ensures ∙ ap (λ p. drop p.1 rest) w.byte-is in
+          let b : c.match-byte_at.byte.0 ≡ unescaped (get_or rest 1 0) (get_or rest 2 0) = ap (λ p. p.0) w.byte-is ∙ cc in
+          one_more _ _ _ _ _ _ c.bytes.invariant c.push.ensures.items (cc (untext_escaped rest h e)) (cc (past_escaped rest h e))
+      | in_default w ↦
+          let h : 32 < get_or rest 0 0 = omega arith in
+          let n : get_or rest 0 0 ≡ 92 → ⊥ = λ e. omega arith in
+          let r : c.skip-rest.result.now ≡ drop 1 rest = c.skip-rest.ensures ∙ ap (λ p. drop p.1 rest) w.byte-is in
+          let b : c.match-byte_at.byte.0 ≡ get_or rest 0 0 = ap (λ p. p.0) w.byte-is ∙ cc in
+          one_more _ _ _ _ _ _ c.bytes.invariant c.push.ensures.items (cc (untext_plain rest h n)) (cc (past_plain rest h n))
     ]
-
-pub returns-then-length-buffer : goal.returns-then-length-buffer
-returns-then-length-buffer c =
-    let rest = c.loop-rest.rest.now in
-    too_long c.args.bytes.now c.loop-rest.buffer rest c.loop-rest.length c.loop-rest.invariant (omega arith) (omega (arith, c.byte_at.ensures, c.loop-rest-test.true))
-
-pub returns : goal.returns
-returns c =
-    let rest = c.loop-rest.rest.now in
-    let a = all_read c.args.bytes.now c.loop-rest.buffer rest c.loop-rest.length c.loop-rest.invariant (omega (arith, c.byte_at.ensures, c.loop-rest-test.false)) in
-    record { fits = c.loop-rest.invariant.0; text = a.0; rest = a.1 }

@@ -13,7 +13,7 @@ invariant_of-self-2 c =
     let w = c.args.self.now in
     let after = c.write_line.new.pen in
     let e = ev_of c.args.e.now in
-    let stored = c.write_line.ensures in
+    let stored = c.write_line.ensures.wrote in
     let size = sized weight_of e c.in-Some.size c.in-Some.ensures in
     let more = one_line_more w.out.now after.out.now w.used after.at (line_of e) stored.slice stored.place after.inside in
     record {
@@ -27,7 +27,7 @@ returns c =
     let w = c.args.self.now in
     let after = c.write_line.new.pen in
     let e = ev_of c.args.e.now in
-    let stored = c.write_line.ensures in
+    let stored = c.write_line.ensures.wrote in
     let size = sized weight_of e c.in-Some.size c.in-Some.ensures in
     let long = same_length w.out.now after.out.now w.used (line_of e) stored.slice in
     let more = one_line_more w.out.now after.out.now w.used after.at (line_of e) stored.slice stored.place after.inside in
