@@ -1,28 +1,26 @@
--- What is left of some bytes once a line was taken off their front.
-use Rattle.std.proofs.Common.{◌≡◌, ℕ, ◌+◌, Bool, true, false, cond, ◌&&◌, eqb, List, [], ◌∷◌, length, Some, None, refl, ap, arith}
+-- Whether some bytes begin with a line, from what is left of them.
+use Rattle.std.proofs.Common.{◌≡◌, ◌≢◌, true, false, List, ◌++◌, ℕ, length, drop, Some, None, Option, MatchOption, ap, sym, ◌∙◌, ⊎_elim}
+use Rattle.std.specs.Borrow.{Bor}
+use Rattle.std.proofs.lemmas.Bool.{cases_Bool}
+use Rattle.std.proofs.lemmas.List.{take-append-drop}
 use Rattle.lines.specs.Line.{starts_with}
-use Rattle.lines.specs.Pens.{strip}
+use Rattle.lines.specs.Pens.{TakenOff}
+use Rattle.lines.specs.Lawful.{starts_append, starts_take}
 
--- the line is there, and what is left follows it
-pub record Within (xs bs left : List ℕ) : Type 0 where
-  pub begins : starts_with xs bs ≡ true
-  pub lengths : length left + length xs ≡ length bs
+pub begins : (line bs left : List ℕ) → bs ≡ line ++ left → starts_with line bs ≡ true
+begins line bs left h = ap (starts_with line) h ∙ starts_append line left
 
-pub strip_some : (xs bs left : List ℕ) → Some left ≡ strip xs (Some bs) → Within xs bs left
-strip_some [] bs left h = let same : left ≡ bs = cc in record { begins = refl; lengths = omega (arith, ap length same) }
-strip_some (x ∷ xs) [] left h = cc
-strip_some (x ∷ xs) (b ∷ bs) left h = let w = by (eqb x b) h (strip_some xs bs left) in record { begins = w.0; lengths = omega (arith, w.1) }
-  where
-    by : (same : Bool) → Some left ≡ cond same (strip xs (Some bs)) None → (Some left ≡ strip xs (Some bs) → Within xs bs left)
-        → ((same && starts_with xs bs) ≡ true) × (length left + length xs ≡ length bs)
-    by true p rest = let w = rest p in (w.begins, w.lengths)
-    by false p rest = cc
+pub other : (line bs : List ℕ) → ((more : List ℕ) → bs ≢ line ++ more) → starts_with line bs ≡ false
+other line bs none =
+    ⊎_elim (λ h. absurd (none (drop (length line) bs) (sym (take-append-drop (length line) bs) ∙ ap (λ l. l ++ drop (length line) bs) (starts_take line bs h)))) (λ h. h) (cases_Bool (starts_with line bs))
 
-pub strip_none : (xs bs : List ℕ) → None ≡ strip xs (Some bs) → starts_with xs bs ≡ false
-strip_none [] bs h = cc
-strip_none (x ∷ xs) [] h = refl
-strip_none (x ∷ xs) (b ∷ bs) h = by (eqb x b) h (strip_none xs bs)
-  where
-    by : (same : Bool) → None ≡ cond same (strip xs (Some bs)) None → (None ≡ strip xs (Some bs) → starts_with xs bs ≡ false) → (same && starts_with xs bs) ≡ false
-    by true p rest = rest p
-    by false p rest = refl
+-- what a slice without a prefix is
+stripped : (xs : List ℕ) (before : Bor (List ℕ)) (r : Option (Bor (List ℕ))) → MatchOption r ((more : List ℕ) → before.now ≢ xs ++ more) (λ after. before.now ≡ xs ++ after.now) → TakenOff xs (Some before) r
+stripped xs before None h = h
+stripped xs before (Some after) h = h
+
+pub off_some : (xs : List ℕ) (s t r : Option (Bor (List ℕ))) (before : Bor (List ℕ)) → s ≡ Some before → t ≡ r → MatchOption r ((more : List ℕ) → before.now ≢ xs ++ more) (λ after. before.now ≡ xs ++ after.now) → TakenOff xs s t
+off_some xs s t r before p q h = rw (p, q) (stripped xs before r h)
+
+pub off_none : (xs : List ℕ) (s t : Option (Bor (List ℕ))) → s ≡ None → t ≡ None → TakenOff xs s t
+off_none xs s t p q = rw (p, q) tt

@@ -3,4 +3,3 @@ pub mod Comparing
 pub mod Unescaping
 pub mod Guessing
 pub mod Fronting
-pub mod Storing

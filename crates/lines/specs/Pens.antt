@@ -1,8 +1,8 @@
 -- What the pens that count and that compare the bytes of a line mean.
-use Rattle.std.specs.Prelude.{◌≡◌, ℕ, ◌+◌, ◌-◌, ◌≤◌, Bool, true, false, cond, ◌==◌, List, [], ◌∷◌, ◌++◌, length, Some, None, Option, refl}
+use Rattle.std.specs.Prelude.{◌≡◌, ◌≢◌, ℕ, ◌+◌, ◌-◌, true, false, List, [], ◌++◌, length, Some, None, Option, refl}
 use Rattle.std.specs.Borrow.{Bor}
-use Rattle.std.proofs.Common.{arith, ap, ◌∙◌}
-use Rattle.std.proofs.lemmas.List.{length-append}
+use Rattle.std.proofs.Common.{arith, sym, ap, ◌∙◌}
+use Rattle.std.proofs.lemmas.List.{append_assoc, append_cancel_left, length-append}
 use Rattle.model.specs.Events.{Ev}
 use Rattle.lines.specs.declared.count.Count.{Count}
 use Rattle.lines.specs.declared.compare.Compare.{Compare}
@@ -24,44 +24,38 @@ count_onward s t u xs ys p q = omega (arith, length-append xs ys)
 
 -- comparing
 
--- what is left of some bytes once others were taken off their front, if they began with those
-abbrev pub strip : List ℕ → Option (List ℕ) → Option (List ℕ)
-strip xs None = None
-strip [] (Some ys) = Some ys
-strip (x ∷ xs) (Some []) = None
-strip (x ∷ xs) (Some (y ∷ ys)) = cond (x == y) (strip xs (Some ys)) None
+-- some bytes were taken off the front of others, or those begin with something else
+abbrev pub TakenOff : List ℕ → Option (Bor (List ℕ)) → Option (Bor (List ℕ)) → Type 0
+TakenOff xs None None = Unit {0}
+TakenOff xs None (Some after) = ⊥
+TakenOff xs (Some before) None = (more : List ℕ) → before.now ≢ xs ++ more
+TakenOff xs (Some before) (Some after) = before.now ≡ xs ++ after.now
 
-abbrev pub left_of : Option (Bor (List ℕ)) → Option (List ℕ)
-left_of None = None
-left_of (Some left) = Some left.now
-
--- the pen has taken the bytes off the front of those to come, or has found others
 abbrev pub Compared : Compare → List ℕ → Compare → Type 0
-Compared s xs t = left_of t.left ≡ strip xs (left_of s.left)
+Compared s xs t = TakenOff xs s.left t.left
 
 abbrev pub unbounded : Compare → ℕ
 unbounded s = 65535
 
-strip_nothing : (left : Option (List ℕ)) → left ≡ strip [] left
-strip_nothing None = refl
-strip_nothing (Some ys) = refl
+nothing_off : (left : Option (Bor (List ℕ))) → TakenOff [] left left
+nothing_off None = tt
+nothing_off (Some left) = refl
 
 pub compare_nothing : (s : Compare) → Compared s [] s
-compare_nothing s = strip_nothing (left_of s.left)
+compare_nothing s = nothing_off s.left
 
 -- taking off some bytes and then others is taking off all of them
-strip_append : (xs ys : List ℕ) (left : Option (List ℕ)) → strip ys (strip xs left) ≡ strip (xs ++ ys) left
-strip_append xs ys None = refl
-strip_append [] ys (Some bs) = refl
-strip_append (x ∷ xs) ys (Some []) = refl
-strip_append (x ∷ xs) ys (Some (b ∷ bs)) = by (x == b) (strip_append xs ys (Some bs))
-  where
-    by : (same : Bool) → strip ys (strip xs (Some bs)) ≡ strip (xs ++ ys) (Some bs) → strip ys (cond same (strip xs (Some bs)) None) ≡ cond same (strip (xs ++ ys) (Some bs)) None
-    by true h = h
-    by false h = refl
+off_append : (xs ys : List ℕ) (s t u : Option (Bor (List ℕ))) → TakenOff xs s t → TakenOff ys t u → TakenOff (xs ++ ys) s u
+off_append xs ys None None None p q = tt
+off_append xs ys None None (Some u) p q = q
+off_append xs ys None (Some t) u p q = absurd p
+off_append xs ys (Some s) None None p q = λ more e. p (ys ++ more) (e ∙ append_assoc xs ys more)
+off_append xs ys (Some s) None (Some u) p q = absurd q
+off_append xs ys (Some s) (Some t) None p q = λ more e. q more (append_cancel_left xs t.now (ys ++ more) (sym p ∙ (e ∙ append_assoc xs ys more)))
+off_append xs ys (Some s) (Some t) (Some u) p q = p ∙ (ap (λ l. xs ++ l) q ∙ sym (append_assoc xs ys u.now))
 
 pub compare_onward : (s t u : Compare) (xs ys : List ℕ) → Compared s xs t → Compared t ys u → Compared s (xs ++ ys) u
-compare_onward s t u xs ys p q = q ∙ (ap (strip ys) p ∙ strip_append xs ys (left_of s.left))
+compare_onward s t u xs ys p q = off_append xs ys s.left t.left u.left p q
 
 -- whether the bytes begin with an event's line, and how long that is
 abbrev pub LineWithin : Ev → List ℕ → Option ℕ → Type 0

@@ -1,24 +1,20 @@
 -- What a line reader means.
-use Rattle.std.specs.Prelude.{◌≡◌, ℕ, List, None, Option}
+use Rattle.std.specs.Prelude.{◌≡◌, ℕ, List, None}
 use Rattle.std.specs.Option.{option_map}
-use Rattle.model.specs.Events.{Ev}
-use Rattle.model.specs.Reading.{reading, read_all, events_of, fault_number, write_all}
+use Rattle.model.specs.Reading.{read_all, events_of, fault_number, write_all}
 use Rattle.model.proofs.Readings.{coming_allowed}
 use Rattle.yaml.specs.Flow.{Flow, Sound}
+use Rattle.yaml.specs.Places.{coming_at}
 use Rattle.lines.specs.declared.reader.LineReader.{LineReader}
 use Rattle.lines.specs.Line.{line_of, line_front}
 use Rattle.lines.specs.Lawful.{lines_format}
 use Rattle.lines.specs.Telling.{ev_told}
 
--- the latest event, if there was one
-abbrev pub latest_of : LineReader → Option Ev
-latest_of r = option_map ev_told r.latest
-
 abbrev pub flow_of : LineReader → Flow
-flow_of r = record { latest = latest_of r; coming = reading line_front 0 r.place r.count r.rest.now }
+flow_of r = record { latest = option_map ev_told r.latest; coming = coming_at line_front r.input }
 
 pub sound : (r : LineReader) → Sound (flow_of r)
-sound r = coming_allowed lines_format 0 r.place r.count r.rest.now
+sound r = coming_allowed lines_format 0 r.input.place r.input.count r.input.rest.now
 
 -- a new reader: no event yet, and all of the input to come
 pub record Made (bytes : List ℕ) (r : LineReader) : Type 0 where

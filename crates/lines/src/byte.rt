@@ -1,5 +1,6 @@
 // How a byte of a text stands in a line.
 ghost use Rattle.std.specs.Prelude.{◌≡◌, ◌<◌, ◌/◌, ◌%◌, [], ◌∷◌, MatchOption};
+ghost use Rattle.std.specs.List.{position};
 ghost use Rattle.lines.specs.Line.{escapes as is_escaped, escape_byte, hex as hex_digit, unhex as hex_value, unescaped};
 
 // The hexadecimal digit of a number below 16.
@@ -24,15 +25,29 @@ fn escapes(byte: u8) -> bool
     byte < 33 || byte > 126 || byte == b'\\'
 }
 
+// Where the first byte of a text stands that is escaped.
+pub(crate) fn first_escaped(text: &[u8]) -> Option<usize>
+    ensures { result ≡ position is_escaped text.now }
+{
+    text.iter().position(|b| escapes(*b))
+}
+
+// A backslash and the two digits of a byte.
+pub(crate) fn escaped(byte: u8) -> [u8; 3]
+    ensures { result ≡ 92 ∷ hex_digit (byte / 16) ∷ hex_digit (byte % 16) ∷ [] }
+{
+    [b'\\', digit(byte / 16), digit(byte % 16)]
+}
+
 // A backslash and the two digits of a byte that does not stand in a line as it is; none for one that does.
 pub fn escape(byte: u8) -> Option<[u8; 3]>
     ensures { MatchOption result (escape_byte byte ≡ byte ∷ []) (λ escaped. escape_byte byte ≡ escaped) }
 {
-    if !escapes(byte) {
-        return None;
+    if escapes(byte) {
+        Some(escaped(byte))
+    } else {
+        None
     }
-    let [high, low] = hex(byte);
-    Some([b'\\', high, low])
 }
 
 // The number of a hexadecimal digit; of any other byte, some number.
@@ -47,7 +62,7 @@ fn unhex(digit: u8) -> u8
 }
 
 // The byte that the two digits after a backslash seem to tell.
-pub fn unescape(high: u8, low: u8) -> u8
+pub(crate) fn unescape(high: u8, low: u8) -> u8
     ensures { result ≡ unescaped high low }
 {
     unhex(high).wrapping_mul(16).wrapping_add(unhex(low))

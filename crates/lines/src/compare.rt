@@ -22,10 +22,10 @@ impl<'a> Pen for Compare<'a> {
 
     ghost onward = { compare_onward };
 
-    fn put(&mut self, byte: u8) {
+    fn put(&mut self, bytes: &[u8]) {
         self.left = match self.left {
-            Some([first, rest @ ..]) if *first == byte => Some(rest),
-            _ => None,
+            Some(left) => left.strip_prefix(bytes),
+            None => None,
         };
     }
 }

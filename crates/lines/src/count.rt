@@ -23,8 +23,9 @@ impl Pen for Count {
 
     ghost onward = { count_onward };
 
-    fn put(&mut self, _byte: u8) {
-        self.bytes += 1;
+    fn put(&mut self, bytes: &[u8]) {
+        let before = self.bytes;
+        self.bytes = before + bytes.len() as u16;
     }
 }
 

@@ -2,13 +2,13 @@
 ghost use Rattle.std.specs.Prelude.{◌≡◌, ℕ, ◌+◌, ◌≤◌, true, List, [], ◌∷◌, ◌++◌, length};
 ghost use Rattle.model.specs.Events.{allowed};
 ghost use Rattle.yaml.specs.Shapes.{ev_of};
-ghost use Rattle.lines.specs.Line.{word as word_of, escape_byte, escape as escape_text, marked, optional, value_part, digits as digits_of, line_of};
+ghost use Rattle.lines.specs.Line.{word as word_of, escape as escape_text, marked, optional, value_part, digits as digits_of, line_of};
 
-use crate::byte::escape;
+use crate::byte::{escaped, first_escaped};
 use model::EventKind;
 use yaml::Event;
 
-// What takes the bytes of a line, one after the other.
+// What takes the bytes of a line, some at a time.
 pub trait Pen {
     // the pen that has taken some bytes more
     ghost wrote: { Self → List ℕ → Self → Type 0 };
@@ -20,44 +20,26 @@ pub trait Pen {
 
     ghost onward: { (s t u : Self) (xs ys : List ℕ) → wrote s xs t → wrote t ys u → wrote s (xs ++ ys) u };
 
-    fn put(&mut self, byte: u8)
-        requires { 1 ≤ room self.old }
-        ensures wrote { wrote self.old (byte ∷ []) self.new }
-        ensures room { room self.old ≤ room self.new + 1 };
+    fn put(&mut self, bytes: &[u8])
+        requires { length bytes.now ≤ room self.old }
+        ensures wrote { wrote self.old bytes.now self.new }
+        ensures room { room self.old ≤ room self.new + length bytes.now };
 }
 
-// Writes some bytes as they are.
-fn write_all<P: Pen>(pen: &mut P, bytes: &[u8])
-    requires { length bytes.now ≤ P.Pen.room pen.old }
-    ensures wrote { P.Pen.wrote pen.old bytes.now pen.new }
-    ensures room { P.Pen.room pen.old ≤ P.Pen.room pen.new + length bytes.now }
-{
-    for b in bytes {
-        pen.put(*b);
-    }
-}
-
-// Writes a byte of a text.
-fn write_byte<P: Pen>(pen: &mut P, byte: u8)
-    requires { length (escape_byte byte) ≤ P.Pen.room pen.old }
-    ensures wrote { P.Pen.wrote pen.old (escape_byte byte) pen.new }
-    ensures room { P.Pen.room pen.old ≤ P.Pen.room pen.new + length (escape_byte byte) }
-{
-    match escape(byte) {
-        Some(escaped) => write_all(pen, &escaped),
-        None => pen.put(byte),
-    }
-}
-
-// Writes a text.
+// Writes a text: the bytes between two that are escaped at once.
 fn write_text<P: Pen>(pen: &mut P, text: &[u8])
     requires { length (escape_text text.now) ≤ P.Pen.room pen.old }
     ensures wrote { P.Pen.wrote pen.old (escape_text text.now) pen.new }
     ensures room { P.Pen.room pen.old ≤ P.Pen.room pen.new + length (escape_text text.now) }
 {
-    for b in text {
-        write_byte(pen, *b);
+    let mut rest = text;
+    'text: while let Some(at) = first_escaped(rest) {
+        let (front, back) = rest.split_at(at);
+        pen.put(front);
+        pen.put(&escaped(back[0]));
+        rest = &back[1..];
     }
+    pen.put(rest);
 }
 
 // Writes a text behind a space and its mark.
@@ -66,7 +48,7 @@ fn write_part<P: Pen>(pen: &mut P, mark: u8, text: &[u8])
     ensures wrote { P.Pen.wrote pen.old (marked mark text.now) pen.new }
     ensures room { P.Pen.room pen.old ≤ P.Pen.room pen.new + length (marked mark text.now) }
 {
-    write_all(pen, &[b' ', mark]);
+    pen.put(&[b' ', mark]);
     write_text(pen, text);
 }
 
@@ -117,8 +99,8 @@ fn write_head<P: Pen>(pen: &mut P, e: &Event<'_>)
     ensures wrote { P.Pen.wrote pen.old (word_of e.now.kind ++ digits_of e.now.style e.now.flags) pen.new }
     ensures room { P.Pen.room pen.old ≤ P.Pen.room pen.new + 8 }
 {
-    write_all(pen, &word(e.kind));
-    write_all(pen, &[b' ', b'0' + e.style, b' ', b'0' + e.flags]);
+    pen.put(&word(e.kind));
+    pen.put(&[b' ', b'0' + e.style, b' ', b'0' + e.flags]);
 }
 
 // Writes the line of an event.
@@ -133,5 +115,5 @@ pub fn write_line<P: Pen>(pen: &mut P, e: &Event<'_>)
     write_optional(pen, b'&', e.anchor);
     write_optional(pen, b'<', e.tag);
     write_value(pen, e.kind, e.value);
-    pen.put(b'\n');
+    pen.put(b"\n");
 }

@@ -1,18 +1,68 @@
 // The line reader: a source over lines.
-ghost use Rattle.std.specs.Prelude.{◌+◌, ◌<◌, ◌≤◌, length};
+ghost use Rattle.std.specs.Prelude.{◌≡◌, Some};
+ghost use Rattle.lines.specs.Line.{Refuses};
+ghost use Rattle.lines.specs.Reads.{flow_of, sound as sound_of, Made, WrittenBack};
 
+use crate::front::read_front;
 use crate::told::Told;
+use yaml::{Cursor, Fault, Head, Source, Text};
 
-pub mod source;
-
-// What is left of the input, how many bytes and events stand before it, the latest event if there was one, and where the next one is told.
+// What is left of the input, the latest event, and where the next one is told.
 #[derive(Drop)]
 pub struct LineReader<'a> {
-    rest: &'a [u8],
-    place: u64,
-    count: u64,
+    input: Cursor<'a>,
     latest: Option<Told>,
     next: Told,
-    ghost fits: { place + length rest.now < 18446744073709551616 },
-    ghost counted: { count ≤ place },
+}
+
+impl<'a> LineReader<'a> {
+    // A reader of these bytes, before their first line.
+    pub fn new(bytes: &'a [u8]) -> LineReader<'a>
+        ensures made { Made bytes.now result }
+        ensures written_back { WrittenBack bytes.now }
+        ensures refuses { Refuses }
+    {
+        LineReader {
+            input: Cursor::new(bytes),
+            latest: None,
+            next: Told::default(),
+        }
+    }
+}
+
+// Makes the event that is held the copy of another; the buffers for it are made once.
+fn hold(held: &mut Option<Told>, told: &Told)
+    ensures { held.new ≡ Some told.now }
+{
+    match held {
+        Some(held) => held.copy_from(told),
+        None => {
+            let mut first = Told::default();
+            first.copy_from(told);
+            *held = Some(first);
+        }
+    }
+}
+
+impl<'a> Source for LineReader<'a> {
+    ghost flow = { flow_of };
+
+    ghost sound = { sound_of };
+
+    fn next_event(&mut self) -> Result<Option<Head>, Fault> {
+        match read_front(self.input.rest, &mut self.next) {
+            Ok(None) => Ok(None),
+            Ok(Some(size)) => {
+                let (start, end) = self.input.pass(size);
+                hold(&mut self.latest, &self.next);
+                Ok(Some(self.next.event().head(start, end)))
+            }
+            Err(cause) => Err(self.input.fault(cause)),
+        }
+    }
+
+    fn byte(&self, text: Text, i: usize) -> Option<u8> {
+        let latest = self.latest.as_ref()?;
+        latest.event().text(text).get(i).copied()
+    }
 }

@@ -1,13 +1,13 @@
 // The event that a line tells, with its texts in buffers of its own.
 ghost use Rattle.std.specs.Prelude.{◌≡◌, length, ◌≤◌};
-ghost use Rattle.yaml.specs.Shapes.{ev_of, head_of, text_of};
+ghost use Rattle.yaml.specs.Shapes.{ev_of};
 ghost use Rattle.lines.specs.Line.{seeming_kind};
 
 use crate::part::read_part;
 use arrayvec::ArrayVec;
 use model::EventKind;
 use yaml::event::{MAX_ANCHOR, MAX_TAG, MAX_VALUE};
-use yaml::{Cause, Event, Head, Mark, Text};
+use yaml::{Cause, Event};
 
 #[derive(Drop)]
 pub struct Told {
@@ -76,33 +76,6 @@ impl Told {
             anchor: self.anchor.as_slice(),
             tag: self.tag.as_slice(),
             value: self.value.as_slice(),
-        }
-    }
-
-    // What a source tells at once of the event, between two marks.
-    pub fn head(&self, start: Mark, end: Mark) -> Head
-        ensures { result ≡ head_of (record { event = ev_told self.now; start = start; end = end }) }
-    {
-        Head {
-            kind: self.kind,
-            style: self.style,
-            flags: self.flags,
-            anchor: self.anchor.len(),
-            tag: self.tag.len(),
-            value: self.value.len(),
-            start,
-            end,
-        }
-    }
-
-    // One of the event's texts.
-    pub fn text(&self, text: Text) -> &[u8]
-        ensures { result.now ≡ text_of text (ev_told self.now) }
-    {
-        match text {
-            Text::Anchor => self.anchor.as_slice(),
-            Text::Tag => self.tag.as_slice(),
-            Text::Value => self.value.as_slice(),
         }
     }
 

@@ -7,6 +7,7 @@ ghost use Rattle.lines.specs.Writes.{view_of, weighs as weighs_of, Stored, unwri
 use super::LineWriter;
 use crate::count::line_size;
 use crate::pen::{Pen, write_line};
+use yaml::sink::fitting;
 use yaml::{Event, Refusal, Sink};
 
 impl<'a> LineWriter<'a> {
@@ -41,9 +42,11 @@ impl<'a> Pen for LineWriter<'a> {
 
     ghost onward = { store_onward };
 
-    fn put(&mut self, byte: u8) {
-        self.out[self.at] = byte;
-        self.at += 1;
+    fn put(&mut self, bytes: &[u8]) {
+        let end = self.at + bytes.len();
+        let out = &mut *self.out;
+        out[self.at..end].copy_from_slice(bytes);
+        self.at = end;
     }
 }
 
@@ -63,14 +66,7 @@ impl<'a> Sink for LineWriter<'a> {
     }
 
     fn take(&mut self, e: &Event<'_>) -> Result<(), Refusal> {
-        let Some(size) = line_size(e) else {
-            return Err(Refusal::NotAllowed);
-        };
-        let size = size as usize;
-        let space = <LineWriter<'_> as Sink>::space(self);
-        if space < size {
-            return Err(Refusal::NoSpace { size, space });
-        }
+        fitting(line_size(e), <LineWriter<'_> as Sink>::space(self))?;
         self.at = self.used;
         write_line(self, e);
         self.used = self.at;

@@ -1,9 +1,9 @@
-use Rattle.std.proofs.Common.{[], ◌∷◌, get_or, sym, ap, ◌∙◌}
+use Rattle.std.proofs.Common.{sym, ◌∙◌}
 use Rattle.lines.proofs.Escaping.{escaped_byte, same_byte}
 use Rattle.lines.proofs.byte.escape.Goals as goal
 
-pub returns-then-not-escapes : goal.returns-then-not-escapes
-returns-then-not-escapes c = same_byte c.args.byte (cc)
+pub returns-then-escapes : goal.returns-then-escapes
+returns-then-escapes c = escaped_byte c.args.byte (sym c.if-escapes.ensures) ∙ sym c.escaped.ensures
 
-pub returns : goal.returns
-returns c = escaped_byte c.args.byte (cc) ∙ ap (λ l. 92 ∷ get_or l 0 0 ∷ get_or l 1 0 ∷ []) (sym c.hex.ensures)
+pub returns-else-escapes : goal.returns-else-escapes
+returns-else-escapes c = same_byte c.args.byte (sym c.if-escapes.ensures)
