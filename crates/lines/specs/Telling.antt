@@ -8,7 +8,7 @@ use Rattle.lines.specs.Line.{guess, is_line_of}
 
 -- the event in its buffers
 abbrev pub ev_told : Told → Ev
-ev_told t = record { kind = t.kind; style = t.style; flags = t.flags; anchor = t.anchor.items; tag = t.tag.items; value = t.value.items }
+ev_told t = record { kind = t.kind; style = t.style; flags = t.flags; anchor = t.anchor; tag = t.tag; value = t.value }
 
 -- the buffers have the event that the bytes seem to tell, or the bytes do not begin with the line of that event
 abbrev pub Guessed : List ℕ → Told → Result (Unit {0}) Cause → Type 0

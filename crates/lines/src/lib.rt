@@ -1,6 +1,7 @@
 // The line format of events: a reader, which is a source of events, and a writer, which is a sink.
 #![tactic(auto)]
 
+mod buffer;
 mod byte;
 mod compare;
 mod count;

@@ -3,8 +3,8 @@ ghost use Rattle.std.specs.Prelude.{◌≡◌, ◌≤◌, drop, slice_index, []}
 ghost use Rattle.lines.specs.Line.{untext, past, part_text, part_rest};
 ghost use Rattle.lines.specs.Parts.{ReadPart};
 
+use crate::buffer::Buffer;
 use crate::byte::unescape;
-use arrayvec::ArrayVec;
 use yaml::Cause;
 
 // The byte at a place; past the end, 0, as the definition of an escaped text has it.
@@ -24,23 +24,26 @@ fn skip(bytes: &[u8], n: usize) -> &[u8]
 // Reads an escaped text, up to the first byte below 33 or the end, and answers what follows it; there is no line where it does not fit.
 fn read_text<'a, const N: usize>(
     bytes: &'a [u8],
-    text: &mut ArrayVec<u8, N>,
+    text: &mut Buffer<N>,
 ) -> Result<&'a [u8], Cause>
-    requires { text.old.items ≡ [] }
-    ensures { ReadPart N (untext 0 bytes.now) (past 0 bytes.now) text.new.items result }
+    requires { text.old ≡ [] }
+    ensures { ReadPart N (untext 0 bytes.now) (past 0 bytes.now) text.new result }
 {
     let mut rest = bytes;
     'bytes: loop {
-        let (byte, size) = match byte_at(rest, 0) {
+        let (byte, after) = match byte_at(rest, 0) {
             0..=b' ' => return Ok(rest),
-            b'\\' => (unescape(byte_at(rest, 1), byte_at(rest, 2)), 3),
-            plain => (plain, 1),
+            b'\\' => (
+                unescape(byte_at(rest, 1), byte_at(rest, 2)),
+                skip(rest, 3),
+            ),
+            plain => (plain, skip(rest, 1)),
         };
         if text.is_full() {
             return Err(Cause::NotALine);
         }
         text.push(byte);
-        rest = skip(rest, size);
+        rest = after;
     }
 }
 
@@ -48,10 +51,10 @@ fn read_text<'a, const N: usize>(
 pub fn read_part<'a, const N: usize>(
     bytes: &'a [u8],
     mark: u8,
-    text: &mut ArrayVec<u8, N>,
+    text: &mut Buffer<N>,
 ) -> Result<&'a [u8], Cause>
     requires { 1 ≤ mark }
-    ensures { ReadPart N (part_text mark bytes.now) (part_rest mark bytes.now) text.new.items result }
+    ensures { ReadPart N (part_text mark bytes.now) (part_rest mark bytes.now) text.new result }
 {
     text.clear();
     match bytes {

@@ -1,10 +1,10 @@
 // The event that a line tells, with its texts in buffers of its own.
-ghost use Rattle.std.specs.Prelude.{◌≡◌, length, ◌≤◌};
+ghost use Rattle.std.specs.Prelude.{◌≡◌};
 ghost use Rattle.yaml.specs.Shapes.{ev_of};
 ghost use Rattle.lines.specs.Line.{seeming_kind};
 
+use crate::buffer::Buffer;
 use crate::part::read_part;
-use arrayvec::ArrayVec;
 use model::EventKind;
 use yaml::event::{MAX_ANCHOR, MAX_TAG, MAX_VALUE};
 use yaml::{Cause, Event};
@@ -14,9 +14,9 @@ pub struct Told {
     kind: EventKind,
     style: u8,
     flags: u8,
-    anchor: ArrayVec<u8, MAX_ANCHOR>,
-    tag: ArrayVec<u8, MAX_TAG>,
-    value: ArrayVec<u8, MAX_VALUE>,
+    anchor: Buffer<MAX_ANCHOR>,
+    tag: Buffer<MAX_TAG>,
+    value: Buffer<MAX_VALUE>,
 }
 
 // The kind that the first and the fourth byte of a line seem to tell.
@@ -35,15 +35,6 @@ fn seeming_kind(sign: u8, letter: u8) -> EventKind
         (_, b'+') => EventKind::MappingStart,
         _ => EventKind::MappingEnd,
     }
-}
-
-// Makes a text the copy of some bytes.
-fn copy<const N: usize>(bytes: &[u8], text: &mut ArrayVec<u8, N>)
-    requires { length bytes.now ≤ N }
-    ensures { text.new.items ≡ bytes.now }
-{
-    text.clear();
-    text.try_extend_from_slice(bytes).unwrap();
 }
 
 impl Told {
@@ -86,9 +77,9 @@ impl Told {
         self.kind = other.kind;
         self.style = other.style;
         self.flags = other.flags;
-        copy(other.anchor.as_slice(), &mut self.anchor);
-        copy(other.tag.as_slice(), &mut self.tag);
-        copy(other.value.as_slice(), &mut self.value);
+        self.anchor.copy_from(&other.anchor);
+        self.tag.copy_from(&other.tag);
+        self.value.copy_from(&other.value);
     }
 }
 
@@ -99,9 +90,9 @@ impl Default for Told {
             kind: EventKind::StreamStart,
             style: 0,
             flags: 0,
-            anchor: ArrayVec::new(),
-            tag: ArrayVec::new(),
-            value: ArrayVec::new(),
+            anchor: Buffer::new(),
+            tag: Buffer::new(),
+            value: Buffer::new(),
         }
     }
 }
