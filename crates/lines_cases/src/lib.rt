@@ -2,29 +2,21 @@
 #![tactic(auto)]
 
 use lines::{LineReader, LineWriter};
-use yaml::event::cause_number;
-use yaml::sink::refusal_number;
 use yaml::{Event, EventKind, Sink, Source, Text};
 
-// How many events come of an input, and the number and the place of the fault after them, or zeros.
-pub fn reading(bytes: &[u8]) -> (usize, u8, u64) {
+// How many events come of an input, up to 20, and the number and the place of the fault after them, if there is one.
+pub fn reading(bytes: &[u8]) -> (usize, Option<(u8, u64)>) {
     let mut reader = LineReader::new(bytes);
-    for i in 0..20 {
-        match reader.next_event() {
-            Ok(Some(_)) => {}
-            Ok(None) => return (i, 0, 0),
-            Err(fault) => return (i, cause_number(fault.cause), fault.place),
-        }
-    }
-    (20, 0, 0)
+    let events = (0..20)
+        .take_while(|_| matches!(reader.next_event(), Ok(Some(_))))
+        .count();
+    let fault = reader.next_event().err();
+    (events, fault.map(|f| (f.cause.number(), f.place)))
 }
 
 // Whether the first line is refused.
 pub fn refused(bytes: &[u8]) -> bool {
-    match LineReader::new(bytes).next_event() {
-        Ok(_) => false,
-        Err(fault) => cause_number(fault.cause) == 15 && fault.place == 0,
-    }
+    reading(bytes) == (0, Some((15, 0)))
 }
 
 // An event with an anchor and a value.
@@ -45,12 +37,9 @@ pub fn event<'a>(
     }
 }
 
-// The number of the refusal, or 0.
-pub fn taken(writer: &mut LineWriter<'_>, e: &Event<'_>) -> u8 {
-    match <LineWriter<'_> as Sink>::take(writer, e) {
-        Ok(()) => 0,
-        Err(refusal) => refusal_number(refusal),
-    }
+// Hands an event to a writer, which takes it or tells the number of its refusal.
+pub fn taken(writer: &mut LineWriter<'_>, e: &Event<'_>) -> Result<(), u8> {
+    writer.take(e).map_err(|refusal| refusal.number())
 }
 
 #[cfg(test)]
@@ -63,7 +52,7 @@ mod book {
 
     #[test]
     fn reads(rt: HostRuntime) {
-        assert_eq!(rt; reading(BOOK), (8, 0, 0));
+        assert_eq!(rt; reading(BOOK), (8, None));
     }
 
     #[test]
@@ -97,43 +86,43 @@ mod book {
         let mut writer = LineWriter::new(&mut out);
         assert_eq!(rt;
             taken(&mut writer, &event(EventKind::StreamStart, 0, 0, b"", b"")),
-            0
+            Ok(())
         );
         assert_eq!(rt;
             taken(
                 &mut writer,
                 &event(EventKind::DocumentStart, 0, 1, b"", b""),
             ),
-            0
+            Ok(())
         );
         assert_eq!(rt;
             taken(
                 &mut writer,
                 &event(EventKind::SequenceStart, 1, 1, b"", b""),
             ),
-            0
+            Ok(())
         );
         assert_eq!(rt;
             taken(&mut writer, &event(EventKind::Scalar, 1, 1, b"s", b"15")),
-            0
+            Ok(())
         );
         assert_eq!(rt;
             taken(&mut writer, &event(EventKind::Alias, 0, 0, b"s", b"")),
-            0
+            Ok(())
         );
         assert_eq!(rt;
             taken(&mut writer, &event(EventKind::SequenceEnd, 0, 0, b"", b"")),
-            0
+            Ok(())
         );
         assert_eq!(rt;
             taken(&mut writer, &event(EventKind::DocumentEnd, 0, 1, b"", b"")),
-            0
+            Ok(())
         );
         assert_eq!(rt;
             taken(&mut writer, &event(EventKind::StreamEnd, 0, 0, b"", b"")),
-            0
+            Ok(())
         );
-        assert_eq!(rt; <LineWriter<'_> as Sink>::space(&writer), 18);
+        assert_eq!(rt; writer.space(), 18);
         assert!(rt; writer.finish() == BOOK);
     }
 }
@@ -148,12 +137,12 @@ mod escapes {
         let mut out = [0; 40];
         let mut writer = LineWriter::new(&mut out);
         let e = event(EventKind::Scalar, 1, 1, b"", b"a b\\~\x7f\xff\n");
-        assert_eq!(rt; <LineWriter<'_> as Sink>::size(&writer, &e), Some(29));
-        assert_eq!(rt; taken(&mut writer, &e), 0);
-        assert_eq!(rt; taken(&mut writer, &e), 32);
+        assert_eq!(rt; writer.size(&e), Some(29));
+        assert_eq!(rt; taken(&mut writer, &e), Ok(()));
+        assert_eq!(rt; taken(&mut writer, &e), Err(32));
         assert_eq!(rt;
             taken(&mut writer, &event(EventKind::Alias, 0, 0, b"", b"")),
-            31
+            Err(31)
         );
         assert!(rt; writer.finish() == b"=VAL 1 1 :a\\20b\\5C~\\7F\\FF\\0A\n".as_slice());
     }
@@ -187,11 +176,11 @@ mod wrong {
 
     #[test]
     fn ends(rt: HostRuntime) {
-        assert_eq!(rt; reading(b"+STR 0 0\n+DOC 0 1"), (1, 15, 9));
-        assert_eq!(rt; reading(b"+STR 0 0\n\n"), (1, 15, 9));
+        assert_eq!(rt; reading(b"+STR 0 0\n+DOC 0 1"), (1, Some((15, 9))));
+        assert_eq!(rt; reading(b"+STR 0 0\n\n"), (1, Some((15, 9))));
         assert!(rt; refused(b"+STR 0 0\r\n"));
         assert!(rt; refused(b"+STR"));
-        assert_eq!(rt; reading(b""), (0, 0, 0));
+        assert_eq!(rt; reading(b""), (0, None));
     }
 
     #[test]
@@ -207,7 +196,7 @@ mod wrong {
         assert!(rt; refused(b"=VAL 6 1 :a\n"));
         assert!(rt; refused(b"=VAL 1 4 :a\n"));
         assert!(rt; refused(b"=VAL 1 1\n"));
-        assert_eq!(rt; reading(b"=VAL 1 1 :\n"), (1, 0, 0));
+        assert_eq!(rt; reading(b"=VAL 1 1 :\n"), (1, None));
         assert!(rt; refused(b"=VAL 1 1 <t &a :v\n"));
         assert!(rt; refused(b"=VAL 1 1 & :v\n"));
         assert!(rt; refused(b"+SEQ 1 1 :v\n"));
