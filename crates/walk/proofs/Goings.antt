@@ -310,29 +310,26 @@ module _ (g : List Vertex) (kind : NodeKind) (depth v : ℕ) (p q : State) (can 
 pub no_opening_here : (g : List Vertex) (kind : NodeKind) (depth v : ℕ) (p : State) → CanOpen g kind depth v p → is_collection kind ≡ true → 256 ≤ depth → NoOpening g depth v p
 no_opening_here g kind depth v p can coll deep = λ seen new marks. deep_here new can.there (ap is_collection can.kind ∙ coll) deep
 
--- the links of a mapping, which are read in pairs
-module _ (g : List Vertex) (v : ℕ) (ws : List ℕ) (ps : List (List ℕ)) (h : HasLinks g v ws) (cut : ps ≡ first_chunks 2 (length ws / 2) ws) (long : length ps ≡ length ws / 2) (i : ℕ) (lt : i < length ps) where
-  pub key_link : LinksTo g v (2 * i) (get_or (get_or ps i []) 0 0)
-  key_link =
-      let same : get_or ws (2 * i) 0 ≡ get_or (get_or ps i []) 0 0 =
-      sym (ap (λ (qs : List (List ℕ)). get_or (get_or qs i []) 0 0) cut ∙ key_at (length ws / 2) i ws (omega arith)) in
-      subst (λ w. LinksTo g v (2 * i) w) same (link_at g v ws (2 * i) h (omega arith))
+-- A mapping's links are read in pairs: the pair at a place, from 0, is a key and its value.
+pub record Pair (g : List Vertex) (v i : ℕ) (pair : List ℕ) : Type 0 where
+  pub key : LinksTo g v (2 * i) (get_or pair 0 0)
+  pub value : LinksTo g v (2 * i + 1) (get_or pair 1 0)
 
-  pub value_link : LinksTo g v (2 * i + 1) (get_or (get_or ps i []) 1 0)
-  value_link =
-      let same : get_or ws (2 * i + 1) 0 ≡ get_or (get_or ps i []) 1 0 =
-      sym (ap (λ (qs : List (List ℕ)). get_or (get_or qs i []) 1 0) cut ∙ value_at (length ws / 2) i ws (omega arith)) in
-      subst (λ w. LinksTo g v (2 * i + 1) w) same (link_at g v ws (2 * i + 1) h (omega arith))
+pub pair_links :
+    (g : List Vertex) (v : ℕ) (ws : List ℕ) (ps : List (List ℕ)) (i : ℕ) → HasLinks g v ws → ps ≡ first_chunks 2 (length ws / 2) ws → length ps ≡ length ws / 2
+    → i < length ps → Pair g v i (get_or ps i [])
+pair_links g v ws ps i h cut long lt =
+    let at : (k : ℕ) → ℕ = λ k. get_or (get_or ps i []) k 0 in
+    let key : get_or ws (2 * i) 0 ≡ at 0 = sym (ap (λ (qs : List (List ℕ)). get_or (get_or qs i []) 0 0) cut ∙ key_at (length ws / 2) i ws (omega arith)) in
+    let value : get_or ws (2 * i + 1) 0 ≡ at 1 = sym (ap (λ (qs : List (List ℕ)). get_or (get_or qs i []) 1 0) cut ∙ value_at (length ws / 2) i ws (omega arith)) in
+    record {
+      key = subst (λ w. LinksTo g v (2 * i) w) key (link_at g v ws (2 * i) h (omega arith));
+      value = subst (λ w. LinksTo g v (2 * i + 1) w) value (link_at g v ws (2 * i + 1) h (omega arith));
+    }
 
-  pub key_visited : (depth : ℕ) (a b c : Walk) → Going g depth v (2 * i) a b → Went g (depth + 1) (get_or (get_or ps i []) 0 0) (state_of b) (state_of c) → SameTables b c
-      → Going g depth v (2 * i + 1) a c
-  key_visited depth a b c so went same = going_more g depth v (2 * i) (get_or (get_or ps i []) 0 0) a b c so key_link went same
-
-  pub pair_visited : (depth : ℕ) (a b c : Walk) → Going g depth v (2 * i + 1) a b → Went g (depth + 1) (get_or (get_or ps i []) 1 0) (state_of b) (state_of c) → SameTables b c
-      → Going g depth v (2 * (i + 1)) a c
-  pair_visited depth a b c so went same =
-      let two : (2 * i + 1) + 1 ≡ 2 * (i + 1) = omega arith in
-      subst (λ k. Going g depth v k a c) two (going_more g depth v (2 * i + 1) (get_or (get_or ps i []) 1 0) a b c so value_link went same)
+-- one more pair is visited
+pub pair_done : (g : List Vertex) (depth v i : ℕ) (a b : Walk) → Going g depth v ((2 * i + 1) + 1) a b → Going g depth v (2 * (i + 1)) a b
+pair_done g depth v i a b so = let two : (2 * i + 1) + 1 ≡ 2 * (i + 1) = omega arith in subst (λ k. Going g depth v k a b) two so
 
 -- a mapping has as many keys as values
 pub links_paired : (b : Book) (depth v : ℕ) (p : State) → SoundBook b → CanOpen b.nodes Mapping depth v p → length (links_at b.nodes v) % 2 ≡ 0

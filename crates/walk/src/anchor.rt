@@ -22,13 +22,13 @@ pub fn generate_anchor(number: u32) -> AnchorName
     let ones = digit(number % 10);
     if number < 1000 {
         return AnchorName {
-            bytes: [b'i', b'd', hundreds, tens, ones, 0, 0, 0],
+            bytes: [b'i', b'd', hundreds, tens, ones, 0],
             len: 5,
         };
     }
     let thousands = digit(number / 1000);
     AnchorName {
-        bytes: [b'i', b'd', thousands, hundreds, tens, ones, 0, 0],
+        bytes: [b'i', b'd', thousands, hundreds, tens, ones],
         len: 6,
     }
 }

@@ -1,4 +1,5 @@
-// The walk: three routines that call one another. They write steps while the table has room, and go on counting.
+// The walk: three routines that call one another, a form this project keeps, so sequences and mappings have one each.
+// They write steps while the table has room, and go on counting.
 ghost use Rattle.std.specs.Prelude.{◌<◌};
 ghost use Rattle.model.specs.declared.NodeKind.TheVariants.{Sequence as SequenceKind, Mapping as MappingKind};
 ghost use Rattle.document.specs.Books.{book_of};

@@ -1,5 +1,5 @@
 // The entries of the two tables: the counting table has one for each node, the step table one for each step of the walk.
-// Both are records of C's, lent by the caller and of numbers only, so that a table of zeros is an empty one.
+// Both are records that C lends, of numbers only, and a table of zeros is empty: in them 0 says no and none.
 ghost use Rattle.std.specs.Prelude.{◌≡◌};
 ghost use Rattle.walk.specs.declared.entry.Counted.{Counted};
 ghost use Rattle.walk.specs.declared.entry.Step.{Step};
@@ -113,10 +113,3 @@ impl Empty for Step {
         Step::default()
     }
 }
-
-// The numbers of the kinds of steps, for those who read them by number.
-pub const FIRST: u32 = 1;
-
-pub const AGAIN: u32 = 2;
-
-pub const LEAVE: u32 = 3;

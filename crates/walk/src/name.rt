@@ -3,10 +3,10 @@ ghost use Rattle.std.specs.Prelude.{◌≡◌, ◌≤◌, []};
 
 #[derive(Clone, Copy, Debug)]
 pub struct AnchorName {
-    pub bytes: [u8; 8],
+    pub(crate) bytes: [u8; 6],
     // so many of them
-    pub len: usize,
-    ghost within: { len ≤ 8 },
+    pub(crate) len: usize,
+    ghost within: { len ≤ 6 },
 }
 
 impl AnchorName {
@@ -17,11 +17,12 @@ impl AnchorName {
         ensures { name_in result ≡ [] }
     {
         AnchorName {
-            bytes: [0; 8],
+            bytes: [0; 6],
             len: 0,
         }
     }
 
+    // Its bytes, as they are written.
     pub fn as_bytes(&self) -> &[u8]
         ensures { result.now ≡ name_in self.now }
     {

@@ -37,7 +37,7 @@ impl From<TooDeep> for Unplanned {
     }
 }
 
-// Sets the counter back to 0 on every way out.
+// Sets the counter back to 0 on every way out: a form this project keeps, a guard that is dropped.
 struct Reset<'a>(&'a mut u32);
 
 impl Drop for Reset<'_> {

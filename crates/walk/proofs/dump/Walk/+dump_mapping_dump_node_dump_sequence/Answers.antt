@@ -4,7 +4,7 @@ use Rattle.model.specs.declared.NodeKind.TheVariants.{Sequence, Mapping}
 use Rattle.document.specs.Books.{book_of}
 use Rattle.walk.specs.Going.{state_of}
 use Rattle.walk.proofs.Links.{link_at}
-use Rattle.walk.proofs.Goings.{count_few, went_again, marked, went_leaf, can_open, opened_visited, going_none, going_more, opened, no_opening_here, no_opening_below, can_visit_child, end_few, key_link, value_link, key_visited, pair_visited, links_paired}
+use Rattle.walk.proofs.Goings.{count_few, went_again, marked, went_leaf, can_open, opened_visited, going_none, going_more, opened, no_opening_here, no_opening_below, can_visit_child, end_few, pair_links, pair_done, links_paired}
 use Rattle.walk.proofs.dump.Walk.+dump_mapping_dump_node_dump_sequence.Goals as goal
 
 -- any node
@@ -110,11 +110,11 @@ pub dump_mapping-dump_node-requires : goal.dump_mapping-dump_node-requires
 dump_mapping-dump_node-requires t c =
     let g = (book_of c.args.d.now).nodes in
     let i = c.loop-key.key-index in
-    let ps = c.as_chunks.result.0.now in (
+    let ps = c.as_chunks.result.0.now in
+    let pair = pair_links g c.args.node c.links_at.result.now ps i c.links_at.ensures c.as_chunks.ensures.front c.as_chunks.ensures.front_len c.loop-key-test.true in (
       search rules,
       can_visit_child g Mapping c.args.depth c.args.node (state_of c.args.self.now) (state_of c.step.new.self) c.requires refl c.if-depth-ge-MAX_OPEN.false c.step.ensures.stepped
-          (2 * i) (get_or (get_or ps i []) 0 0) (state_of c.loop-key.self) c.loop-key.invariant.children
-          (key_link g c.args.node c.links_at.result.now ps c.links_at.ensures c.as_chunks.ensures.front c.as_chunks.ensures.front_len i c.loop-key-test.true) c.loop-key.invariant.tables.nodes,
+          (2 * i) (get_or (get_or ps i []) 0 0) (state_of c.loop-key.self) c.loop-key.invariant.children pair.key c.loop-key.invariant.tables.nodes,
     )
 
 pub dump_mapping-returns-in_err-dump_node-clause-opened : goal.dump_mapping-returns-in_err-dump_node-clause-opened
@@ -122,23 +122,23 @@ dump_mapping-returns-in_err-dump_node-clause-opened t c =
     let g = (book_of c.args.d.now).nodes in
     let i = c.loop-key.key-index in
     let ps = c.as_chunks.result.0.now in
+    let pair = pair_links g c.args.node c.links_at.result.now ps i c.links_at.ensures c.as_chunks.ensures.front c.as_chunks.ensures.front_len c.loop-key-test.true in
     let e = err_from_is_err_and c.from_residual.result c.from_residual.ensures.1 in
     rw e.1
     (no_opening_below g Mapping c.args.depth c.args.node (state_of c.args.self.now) (state_of c.step.new.self) c.requires refl c.if-depth-ge-MAX_OPEN.false c.step.ensures.stepped
-    (2 * i) (get_or (get_or ps i []) 0 0) (state_of c.loop-key.self) c.loop-key.invariant.children
-    (key_link g c.args.node c.links_at.result.now ps c.links_at.ensures c.as_chunks.ensures.front c.as_chunks.ensures.front_len i c.loop-key-test.true) c.in_err-dump_node.ensures.visited)
+    (2 * i) (get_or (get_or ps i []) 0 0) (state_of c.loop-key.self) c.loop-key.invariant.children pair.key c.in_err-dump_node.ensures.visited)
 
 pub dump_mapping-dump_node-requires-in-loop-key : goal.dump_mapping-dump_node-requires-in-loop-key
 dump_mapping-dump_node-requires-in-loop-key t c =
     let g = (book_of c.args.d.now).nodes in
     let i = c.loop-key.key-index in
     let ps = c.as_chunks.result.0.now in
-    let so = key_visited g c.args.node c.links_at.result.now ps c.links_at.ensures c.as_chunks.ensures.front c.as_chunks.ensures.front_len i c.loop-key-test.true
-    c.args.depth c.step.new.self c.loop-key.self c.dump_node.new.self c.loop-key.invariant c.in_ok-dump_node.ensures.visited c.in_ok-dump_node.ensures.tables in (
+    let pair = pair_links g c.args.node c.links_at.result.now ps i c.links_at.ensures c.as_chunks.ensures.front c.as_chunks.ensures.front_len c.loop-key-test.true in
+    let so = going_more g c.args.depth c.args.node (2 * i) (get_or (get_or ps i []) 0 0) c.step.new.self c.loop-key.self c.dump_node.new.self
+    c.loop-key.invariant pair.key c.in_ok-dump_node.ensures.visited c.in_ok-dump_node.ensures.tables in (
       search rules,
       can_visit_child g Mapping c.args.depth c.args.node (state_of c.args.self.now) (state_of c.step.new.self) c.requires refl c.if-depth-ge-MAX_OPEN.false c.step.ensures.stepped
-          (2 * i + 1) (get_or (get_or ps i []) 1 0) (state_of c.dump_node.new.self) so.children
-          (value_link g c.args.node c.links_at.result.now ps c.links_at.ensures c.as_chunks.ensures.front c.as_chunks.ensures.front_len i c.loop-key-test.true) so.tables.nodes,
+          (2 * i + 1) (get_or (get_or ps i []) 1 0) (state_of c.dump_node.new.self) so.children pair.value so.tables.nodes,
     )
 
 pub dump_mapping-returns-in_err-dump_node-2-clause-opened : goal.dump_mapping-returns-in_err-dump_node-2-clause-opened
@@ -146,23 +146,25 @@ dump_mapping-returns-in_err-dump_node-2-clause-opened t c =
     let g = (book_of c.args.d.now).nodes in
     let i = c.loop-key.key-index in
     let ps = c.as_chunks.result.0.now in
-    let so = key_visited g c.args.node c.links_at.result.now ps c.links_at.ensures c.as_chunks.ensures.front c.as_chunks.ensures.front_len i c.loop-key-test.true
-    c.args.depth c.step.new.self c.loop-key.self c.dump_node.new.self c.loop-key.invariant c.in_ok-dump_node.ensures.visited c.in_ok-dump_node.ensures.tables in
+    let pair = pair_links g c.args.node c.links_at.result.now ps i c.links_at.ensures c.as_chunks.ensures.front c.as_chunks.ensures.front_len c.loop-key-test.true in
+    let so = going_more g c.args.depth c.args.node (2 * i) (get_or (get_or ps i []) 0 0) c.step.new.self c.loop-key.self c.dump_node.new.self
+    c.loop-key.invariant pair.key c.in_ok-dump_node.ensures.visited c.in_ok-dump_node.ensures.tables in
     let e = err_from_is_err_and c.from_residual-in_err-dump_node-2.result c.from_residual-in_err-dump_node-2.ensures.1 in
     rw e.1
     (no_opening_below g Mapping c.args.depth c.args.node (state_of c.args.self.now) (state_of c.step.new.self) c.requires refl c.if-depth-ge-MAX_OPEN.false c.step.ensures.stepped
-    (2 * i + 1) (get_or (get_or ps i []) 1 0) (state_of c.dump_node.new.self) so.children
-    (value_link g c.args.node c.links_at.result.now ps c.links_at.ensures c.as_chunks.ensures.front c.as_chunks.ensures.front_len i c.loop-key-test.true) c.in_err-dump_node-2.ensures.visited)
+    (2 * i + 1) (get_or (get_or ps i []) 1 0) (state_of c.dump_node.new.self) so.children pair.value c.in_err-dump_node-2.ensures.visited)
 
 pub dump_mapping-loop-key-preserved : goal.dump_mapping-loop-key-preserved
 dump_mapping-loop-key-preserved t c =
     let g = (book_of c.args.d.now).nodes in
     let i = c.loop-key.key-index in
     let ps = c.as_chunks.result.0.now in
-    let so = key_visited g c.args.node c.links_at.result.now ps c.links_at.ensures c.as_chunks.ensures.front c.as_chunks.ensures.front_len i c.loop-key-test.true
-    c.args.depth c.step.new.self c.loop-key.self c.dump_node.new.self c.loop-key.invariant c.in_ok-dump_node.ensures.visited c.in_ok-dump_node.ensures.tables in
-    pair_visited g c.args.node c.links_at.result.now ps c.links_at.ensures c.as_chunks.ensures.front c.as_chunks.ensures.front_len i c.loop-key-test.true
-    c.args.depth c.step.new.self c.dump_node.new.self c.dump_node-in-loop-key.new.self so c.in_ok-dump_node-2.ensures.visited c.in_ok-dump_node-2.ensures.tables
+    let pair = pair_links g c.args.node c.links_at.result.now ps i c.links_at.ensures c.as_chunks.ensures.front c.as_chunks.ensures.front_len c.loop-key-test.true in
+    let so = going_more g c.args.depth c.args.node (2 * i) (get_or (get_or ps i []) 0 0) c.step.new.self c.loop-key.self c.dump_node.new.self
+    c.loop-key.invariant pair.key c.in_ok-dump_node.ensures.visited c.in_ok-dump_node.ensures.tables in
+    pair_done g c.args.depth c.args.node i c.step.new.self c.dump_node-in-loop-key.new.self
+    (going_more g c.args.depth c.args.node (2 * i + 1) (get_or (get_or ps i []) 1 0) c.step.new.self c.dump_node.new.self c.dump_node-in-loop-key.new.self
+    so pair.value c.in_ok-dump_node-2.ensures.visited c.in_ok-dump_node-2.ensures.tables)
 
 pub dump_mapping-step-requires-2 : goal.dump_mapping-step-requires-2
 dump_mapping-step-requires-2 t c =
