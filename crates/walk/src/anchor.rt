@@ -5,6 +5,7 @@ ghost use Rattle.walk.specs.Names.{name_in};
 
 use crate::name::AnchorName;
 
+// The digit of a number below ten.
 fn digit(n: u32) -> u8
     requires { n < 10 }
     ensures { result ≡ 48 + n }

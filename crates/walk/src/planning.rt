@@ -26,6 +26,7 @@ pub enum Unplanned {
     NoAnchor(u32),
 }
 
+// Without a walk there is no plan.
 impl From<TooDeep> for Unplanned {
     ghost use Rattle.std.specs.Prelude.{◌≡◌};
     ghost use Rattle.walk.specs.declared.planning.Unplanned.TheVariants.{TooDeep as Deep};
