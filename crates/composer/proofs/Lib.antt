@@ -1,4 +1,3 @@
 pub mod Doing
 pub mod Finding
 pub mod Opening
-pub mod Tagging

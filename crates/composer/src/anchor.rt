@@ -3,6 +3,7 @@ ghost use Rattle.composer.specs.Names.{empty_anchor};
 
 use tables::Empty;
 
+// A form this project keeps: a packed record, as C hands it in, so the name is bytes with a size beside them.
 #[repr(C)]
 #[derive(Clone, Copy)]
 pub struct Anchor {

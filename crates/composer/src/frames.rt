@@ -3,8 +3,10 @@ ghost use Rattle.std.specs.Prelude.{◌≤◌};
 
 mod opens;
 
+use document::limits::MAX_OPEN;
+
 // An open collection: its node's number, how many children it has so far, and whether it is a mapping.
-#[derive(Clone, Copy)]
+#[derive(Clone, Copy, PartialEq, Eq, Debug, Default)]
 pub struct Frame {
     pub node: u32,
     pub children: u32,
@@ -15,7 +17,7 @@ pub struct Frame {
 // A form this project keeps: a table of a fixed size in a plain inner struct, since a library uses no heap.
 #[derive(Drop)]
 pub struct Frames {
-    all: [Frame; 256],
+    all: [Frame; MAX_OPEN],
     count: usize,
     ghost few: { count ≤ 256 },
 }

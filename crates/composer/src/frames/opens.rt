@@ -3,6 +3,7 @@ ghost use Rattle.std.specs.Prelude.{◌≡◌, ◌+◌, ◌^◌, ◌<◌, []};
 ghost use Rattle.composer.specs.Opens.{opens, innermost, within, outer, Opened, top_children, one_more_child};
 
 use super::{Frame, Frames};
+use document::limits::MAX_OPEN;
 use tables::Full;
 
 impl Frames {
@@ -10,13 +11,8 @@ impl Frames {
     pub fn new() -> Frames
         ensures { opens result ≡ [] }
     {
-        let none = Frame {
-            node: 0,
-            children: 0,
-            mapping: false,
-        };
         Frames {
-            all: [none; 256],
+            all: [Frame::default(); MAX_OPEN],
             count: 0,
         }
     }
@@ -41,7 +37,7 @@ impl Frames {
         ensures { Opened self.old frame result self.new }
     {
         let top = self.count;
-        if top == 256 {
+        if top == MAX_OPEN {
             return Err(Full);
         }
         self.all[top] = frame;

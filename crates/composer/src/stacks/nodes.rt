@@ -33,7 +33,7 @@ pub fn value_for<'b>(kind: NodeKind, value: &'b [u8]) -> &'b [u8]
     }
 }
 
-// The node of a number, if there is one.
+// The node of a number, if there is one. The numbers stand in packed records, where 0 names none.
 pub fn node_at(nodes: &Stack<'_, Node>, number: u32) -> Option<Node>
     ensures { result ≡ numbered (contents nodes.now) number }
 {

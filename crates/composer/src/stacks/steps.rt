@@ -14,7 +14,7 @@ impl<'a> Tables<'a> {
     fn name_and_add(&mut self, placed: &Placed<'_>) -> Result<(), Refusal>
         ensures { Does (naming_adding (spaces_of self.old) (marked placed.now) (state_of self.old)) self.old result self.new }
     {
-        self.register_anchor(placed.event.anchor, placed.start)?;
+        self.register_anchor(placed)?;
         self.add_newest(placed.start)
     }
 
@@ -53,14 +53,11 @@ impl<'a> Tables<'a> {
             | EventKind::Scalar
             | EventKind::SequenceStart
             | EventKind::MappingStart => { self.frames.len() > 0 || self.nodes.len() == 0 }
-            EventKind::SequenceEnd => match self.frames.top() {
-                Some(frame) => !frame.mapping,
-                None => false,
-            },
-            EventKind::MappingEnd => match self.frames.top() {
-                Some(frame) => frame.mapping && frame.children % 2 == 0,
-                None => false,
-            },
+            EventKind::SequenceEnd => self.frames.top().is_some_and(|frame| !frame.mapping),
+            EventKind::MappingEnd => self
+                .frames
+                .top()
+                .is_some_and(|frame| frame.mapping && frame.children % 2 == 0),
             EventKind::DocumentEnd => self.frames.len() == 0 && self.nodes.len() > 0,
             EventKind::StreamStart | EventKind::StreamEnd | EventKind::DocumentStart => false,
         }

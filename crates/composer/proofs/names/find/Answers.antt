@@ -1,6 +1,4 @@
-use Rattle.std.proofs.Common.{◌≡◌, ◌<◌, get_or, sym, ◌∙◌, arith}
-use Rattle.std.proofs.lemmas.List.{take_more_same, at_drop_all}
-use Rattle.composer.specs.Names.{found}
+use Rattle.std.proofs.Common.{◌≡◌, ◌<◌, get_or, ◌∙◌, arith}
 use Rattle.composer.proofs.Finding.{absent_anchor, passed_size, passed_byte, found_here}
 use Rattle.composer.proofs.names.find.Goals as goal
 
@@ -20,18 +18,6 @@ anchors-preserved c =
           ∙ c.anchors.invariant.0,
       c.anchors.invariant.1,
     )
-
-pub loop-i-preserved : goal.loop-i-preserved
-loop-i-preserved c =
-    let bytes = (get_or c.args.anchors.now c.anchors.anchor-index absent_anchor).bytes in
-    let is = c.space-size.ensures in
-    let long = c.if-size-name.false in
-    let at = c.loop-i-test.true in
-    take_more_same bytes c.args.name.now c.loop-i.i 0 (omega arith) (omega arith) c.loop-i.invariant c.if-bytes-i.false
-
-pub returns-after-anchors : goal.returns-after-anchors
-returns-after-anchors c =
-    c.anchors.invariant.1 ∙ sym (at_drop_all (λ l. found l c.args.name.now) c.args.anchors.now c.anchors.anchor-index c.anchors-test.false) ∙ c.anchors.invariant.0
 
 pub returns-after-loop-i : goal.returns-after-loop-i
 returns-after-loop-i c =
