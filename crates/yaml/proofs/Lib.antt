@@ -1,4 +1,3 @@
 pub mod Zeros
 pub mod Gives
-pub mod Puts
 pub mod Takes

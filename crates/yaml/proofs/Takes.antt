@@ -1,11 +1,9 @@
 -- What a sink over bytes in any format holds after one event more.
-use Rattle.std.proofs.Common.{◌≡◌, ℕ, Bool, true, false, cond, List, [], ◌∷◌, ◌++◌, Some, None, Err, Option, refl, ap, sym, ◌∙◌, arith}
+use Rattle.std.proofs.Common.{◌≡◌, ℕ, Bool, true, false, cond, List, [], ◌∷◌, ◌++◌, Some, None, refl, ap, ◌∙◌}
 use Rattle.model.specs.Events.{Ev, allowed}
 use Rattle.model.specs.Reading.{Front, read_all, events_of, fault_number, Format}
 use Rattle.model.proofs.Readings.{one_more_lem}
-use Rattle.yaml.specs.declared.sink.Refusal.{Refusal}
-use Rattle.yaml.specs.declared.sink.Refusal.TheVariants.{NotAllowed, NoSpace}
-use Rattle.yaml.specs.View.{View, size_of, Fits, Took}
+use Rattle.yaml.specs.View.{size_of}
 
 -- an event that has a size is allowed, and the size is its weight
 pub sized : (weight : Ev → ℕ) (e : Ev) (n : ℕ) → Some n ≡ size_of weight e → (allowed e ≡ true) × (n ≡ weight e)
@@ -15,25 +13,7 @@ sized weight e n h = by (allowed e) refl h
     by true p q = (p, cc)
     by false p q = cc
 
--- an allowed event has a size
-pub has_size : (weight : Ev → ℕ) (e : Ev) → allowed e ≡ true → None ≡ size_of weight e → ⊥
-has_size weight e a h = let there : size_of weight e ≡ Some (weight e) = ap (λ b. cond b (Some (weight e)) None) a in cc
-
--- an event that has no size is not allowed
-pub unsized : (weight : Ev → ℕ) (e : Ev) → size_of weight e ≡ None → allowed e ≡ false
-unsized weight e = by (allowed e)
-  where
-    by : (b : Bool) → cond b (Some (weight e)) None ≡ None → b ≡ false
-    by true q = cc
-    by false q = refl
-
--- what does not fit is refused as a sink refuses it
-pub refused : (weight : Ev → ℕ) (v : View) (e : Ev) (size : Option ℕ) (space : ℕ) (r : Refusal) → size ≡ size_of weight e → space ≡ v.room → Fits size space (Err r) → Took weight v e (Err r) v
-refused weight v e size space NotAllowed s p h = record { not_allowed = unsized weight e (sym s ∙ h); same = refl }
-refused weight v e size space (NoSpace n m) s p h =
-    let is = sized weight e n (sym h.0 ∙ s) in
-    record { was_allowed = is.0; size_told = is.1; space_told = h.1 ∙ p; too_large = omega (arith, h.2, is.1); same = refl }
-
+-- one event more, behind bytes that are read to their end
 pub taken_more : {write : Ev → List ℕ} {front : List ℕ → Front} → Format write front → (held held' : List ℕ) (e : Ev)
     → fault_number (read_all front held).after ≡ 0 → allowed e ≡ true → held' ≡ held ++ write e
     → (events_of (read_all front held') ≡ events_of (read_all front held) ++ e ∷ []) × (fault_number (read_all front held').after ≡ 0)

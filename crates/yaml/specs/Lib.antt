@@ -2,4 +2,3 @@ pub mod Shapes
 pub mod Flow
 pub mod View
 pub mod Places
-pub mod Puts

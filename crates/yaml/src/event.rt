@@ -1,9 +1,9 @@
 // Events as they are handed on, and which of them are allowed (docs/EVENTS.md has the table).
 ghost use Rattle.std.specs.Prelude.{◌≡◌};
-ghost use Rattle.model.specs.Events.{table, zero_free, allowed as allowed_event, kind_number, cause_number};
+ghost use Rattle.model.specs.Events.{table, zero_free, allowed as allowed_event};
 ghost use Rattle.yaml.specs.Shapes.{ev_of, shape_of, shape_allowed, head_with, text_of, row_of};
 
-use model::{Cause, EventKind, Mark};
+use model::{EventKind, Mark};
 
 // The longest anchor, tag and value, in bytes.
 pub const MAX_ANCHOR: usize = 64;
@@ -64,20 +64,6 @@ pub struct Limits {
     pub anchor: usize,
     pub tag: usize,
     pub value: usize,
-}
-
-// The number of a kind, as in `yaml_event_type_t`.
-pub fn kind_number(kind: EventKind) -> u8
-    ensures { result ≡ kind_number kind }
-{
-    u8::from(kind)
-}
-
-// The number of a source's fault.
-pub fn cause_number(cause: Cause) -> u8
-    ensures { result ≡ cause_number cause }
-{
-    cause.number()
 }
 
 // The row of the table of allowed events for a kind.

@@ -29,13 +29,6 @@ impl Refusal {
     }
 }
 
-// The number of a sink's refusal.
-pub fn refusal_number(refusal: Refusal) -> u8
-    ensures { result ≡ refusal_number refusal }
-{
-    refusal.number()
-}
-
 // The refusal in words.
 impl fmt::Display for Refusal {
     fn fmt<W: fmt::Write>(&self, f: &mut fmt::Formatter<W>) -> fmt::Result {
