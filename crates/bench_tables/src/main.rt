@@ -4,6 +4,7 @@
 use document::Node;
 use document::limits::{MAX_LINKS, MAX_NODES, MAX_TEXT};
 use std::env;
+use std::mem::size_of_val;
 use std::time::Instant;
 use tables::{Empty, clear};
 
@@ -26,7 +27,7 @@ impl Sample for u32 {
 
 impl Sample for u8 {
     fn sample(&self) -> u32 {
-        *self as u32
+        u32::from(*self)
     }
 }
 
@@ -42,12 +43,11 @@ fn measured<T: Empty + Copy + Sample>(
     let start = Instant::now(rt)?;
     for i in 0..rounds {
         let at = i.wrapping_mul(stride);
-        if table.len() > 0 {
-            let put = at % table.len();
-            table[put] = entry;
+        if !table.is_empty() {
+            table[at % table.len()] = entry;
         }
         clear(table);
-        if table.len() > 0 {
+        if !table.is_empty() {
             let read = at.wrapping_add(stride) % table.len();
             sum = sum.wrapping_add(table[read].sample());
         }
@@ -59,23 +59,25 @@ fn measured<T: Empty + Copy + Sample>(
 
 fn main(rt: HostRuntime) -> anyhow::Result<()> {
     let heap = rt.alloc();
-    let mut words: usize = 0;
-    for _ in env::args(&rt)? {
-        words = words.saturating_add(1);
-    }
+    let words = env::args(&rt)?.count();
     let telling = words > 1;
     let rounds = if telling { 20000 } else { 1 };
-    let mut nodes = vec![in heap; <Node as Empty>::none(); MAX_NODES]?;
+    let mut nodes = vec![in heap; Node::none(); MAX_NODES]?;
     let mut links = vec![in heap; 0u32; MAX_LINKS]?;
     let mut text = vec![in heap; 0u8; MAX_TEXT]?;
-    let mut used = <Node as Empty>::none();
+    let mut used = Node::none();
     used.first_link = 7;
     let stride = words.saturating_mul(37);
     let (n, a) = measured(&rt, nodes.as_mut_slice(), used, rounds, stride)?;
     let (l, b) = measured(&rt, links.as_mut_slice(), 7u32, rounds, stride)?;
     let (t, c) = measured(&rt, text.as_mut_slice(), 7u8, rounds, stride)?;
     if telling {
-        println!(rt; "nodes 294912 {n}\nlinks 65536 {l}\ntext 65536 {t}\nread {a} {b} {c}")?;
+        println!(rt;
+            "nodes {} {n}\nlinks {} {l}\ntext {} {t}\nread {a} {b} {c}",
+            size_of_val(nodes.as_slice()),
+            size_of_val(links.as_slice()),
+            size_of_val(text.as_slice())
+        )?;
     }
     Ok(())
 }

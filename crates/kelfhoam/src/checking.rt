@@ -1,67 +1,24 @@
 // The command `check`: loads every document and tells a row for each.
-use crate::input::{Form, count_events, form_of, read_input};
-use crate::refusing::load_line;
-use crate::room::full_room;
-use composer::Tables;
-use document::Node;
-use lines::LineReader;
-use loader::{Loaded, Loader};
-use packed::PackedReader;
+use crate::files::read_input;
+use crate::loading::each_document;
+use document::{Node, NodeKind};
+use loader::Loaded;
+use std::alloc::{AllocError, Global};
 use std::process::ExitCode;
-use yaml::Source;
 
 // The most collections that are open at once, from where nodes begin and end in the input.
-fn deepest(open_ends: &mut Vec<u64>, nodes: &[Node]) -> anyhow::Result<usize> {
+fn deepest(heap: Global, nodes: &[Node]) -> Result<usize, AllocError> {
+    let mut open_ends: Vec<u64> = Vec::new(heap);
     let mut most = 0;
     for node in nodes {
-        for _ in 0..open_ends.len() {
-            match open_ends.last().copied() {
-                Some(end) if end <= node.start.index => {
-                    let _ = open_ends.pop();
-                }
-                _ => break,
-            }
-        }
-        if node.kind > 1 {
+        while open_ends.pop_if(|end| *end <= node.start.index).is_some() {}
+        let kind = NodeKind::try_from(node.kind);
+        if matches!(kind, Ok(NodeKind::Sequence | NodeKind::Mapping)) {
             open_ends.push(node.end.index)?;
-            most = open_ends.len().max(most);
+            most = most.max(open_ends.len());
         }
     }
     Ok(most)
-}
-
-// Tells a row for each document up to the stream's end; a refusal is told in a line.
-fn check_stream<S: Source + Drop>(
-    rt: &HostRuntime,
-    source: S,
-    input: &[u8],
-) -> anyhow::Result<ExitCode> {
-    let heap = rt.alloc();
-    let mut room = full_room(heap)?;
-    let mut tables = Tables::new(
-        room.nodes.as_mut_slice(),
-        room.links.as_mut_slice(),
-        room.text.as_mut_slice(),
-        room.anchors.as_mut_slice(),
-        room.waiting.as_mut_slice(),
-    );
-    let mut loader = Loader::new(source);
-    println!(rt; "document    nodes    links     text  anchors  aliases  deepest")?;
-    for document in 1..usize::MAX {
-        match loader.load(&mut tables) {
-            Ok(Some(loaded)) => tell_row(rt, document, &loaded, tables.nodes())?,
-            Ok(None) => {
-                let documents = document - 1;
-                println!(rt; "the stream ends after {documents} documents")?;
-                return Ok(ExitCode::SUCCESS);
-            }
-            Err(refusal) => {
-                rt.eprint(load_line(heap, refusal, input.len(), count_events(input))?)?;
-                return Ok(ExitCode::FAILURE);
-            }
-        }
-    }
-    Ok(ExitCode::SUCCESS)
 }
 
 // One row. Every node but the root is the child of one collection, so the links beyond these are aliases.
@@ -71,16 +28,15 @@ fn tell_row(
     loaded: &Loaded,
     table: &[Node],
 ) -> anyhow::Result<()> {
-    let mut open_ends: Vec<u64> = Vec::new(rt.alloc());
-    let count = loaded.nodes.min(table.len());
-    let deep = deepest(&mut open_ends, &table[0..count])?;
-    let nodes = loaded.nodes;
-    let links = loaded.links;
-    let text = loaded.text;
-    let anchors = loaded.anchors;
-    let aliases = links.saturating_add(1).saturating_sub(nodes);
+    let nodes = &table[..loaded.nodes.min(table.len())];
+    let aliases = loaded.links.saturating_add(1).saturating_sub(loaded.nodes);
     println!(rt;
-        "{document:>8} {nodes:>8} {links:>8} {text:>8} {anchors:>8} {aliases:>8} {deep:>8}"
+        "{document:>8} {:>8} {:>8} {:>8} {:>8} {aliases:>8} {:>8}",
+        loaded.nodes,
+        loaded.links,
+        loaded.text,
+        loaded.anchors,
+        deepest(rt.alloc(), nodes)?
     )?;
     Ok(())
 }
@@ -88,9 +44,19 @@ fn tell_row(
 // Reads an input in either form and checks it.
 pub fn run_check(rt: &HostRuntime, file: Option<&str>) -> anyhow::Result<ExitCode> {
     let input = read_input(rt, file)?;
-    let bytes = input.as_slice();
-    match form_of(bytes) {
-        Form::Packed => check_stream(rt, PackedReader::new(bytes), bytes),
-        Form::Lines => check_stream(rt, LineReader::new(bytes), bytes),
+    println!(rt; "document    nodes    links     text  anchors  aliases  deepest")?;
+    let told = each_document(
+        rt,
+        input.as_slice(),
+        |number, loaded, tables| -> anyhow::Result<()> {
+            tell_row(rt, number, loaded, tables.nodes())
+        },
+    )?;
+    match told {
+        Some(documents) => {
+            println!(rt; "the stream ends after {documents} documents")?;
+            Ok(ExitCode::SUCCESS)
+        }
+        None => Ok(ExitCode::FAILURE),
     }
 }

@@ -1,5 +1,6 @@
 // The command line.
-use crate::input::Form;
+use crate::form::Form;
+use anyhow::{Context, Result, bail, ensure};
 
 pub const USAGE: &str =
     "usage: kelfhoam redump [--to packed|lines] [-o OUT] [FILE]\n       kelfhoam convert --to packed|lines [-o OUT] [FILE]\n       kelfhoam check [FILE]\n       kelfhoam show [FILE]\n       kelfhoam --help\n\nEach reads YAML events from FILE (standard input where FILE is absent or -),\npacked or in lines. Events go to standard output and the summary to standard\nerror; with -o, events go to OUT and the summary to standard output.\n\nredump   load every document and write it again, in the same form or the one\n         that is asked for.\nconvert  write the events as they are, in the form that is asked for.\ncheck    load every document, and tell a row for each.\nshow     load every document, and print it as an outline.\n";
@@ -24,108 +25,88 @@ pub enum Command<'a> {
     Show {
         file: Option<&'a str>,
     },
-    // no command, and why not
-    Wrong(&'static str),
 }
 
-// What the next word is for.
-#[derive(Clone, Copy)]
-enum Expected {
-    Any,
-    Form,
-    Out,
+// What the words behind `convert` or `redump` may say.
+#[derive(Clone, Copy, Default)]
+struct Writing<'a> {
+    to: Option<Form>,
+    out: Option<&'a str>,
+    file: Option<&'a str>,
 }
 
-// The words behind `convert` or `redump`, which may do without --to.
-fn parse_writing<'a>(words: &'a [String], redump: bool) -> Command<'a> {
-    let mut to: Option<Form> = None;
-    let mut out: Option<&'a str> = None;
-    let mut file: Option<&'a str> = None;
-    let mut expected = Expected::Any;
-    for argument in words {
-        let word = argument.as_str();
-        match expected {
-            Expected::Out => {
-                out = Some(word);
-                expected = Expected::Any;
+// A word that names a FILE: any but an option.
+fn file_name(word: &str) -> Result<&str> {
+    ensure!(
+        word == "-" || !word.starts_with('-'),
+        "there is no such option"
+    );
+    Ok(word)
+}
+
+// The words behind `convert` or `redump`; none where help is asked for.
+fn parse_writing(words: &[String]) -> Result<Option<Writing<'_>>> {
+    let mut writing = Writing::default();
+    let mut words = words.iter();
+    while let Some(word) = words.next() {
+        match word.as_str() {
+            "--to" => {
+                let form = words.next().context("an option lacks its word")?;
+                writing.to = Some(form.as_str().parse()?);
             }
-            Expected::Form => {
-                if word == "packed" {
-                    to = Some(Form::Packed);
-                } else if word == "lines" {
-                    to = Some(Form::Lines);
-                } else {
-                    return Command::Wrong("--to takes packed or lines");
-                }
-                expected = Expected::Any;
+            "-o" => {
+                let path = words.next().context("an option lacks its word")?;
+                writing.out = Some(path.as_str());
             }
-            Expected::Any => {
-                if word == "--to" {
-                    expected = Expected::Form;
-                } else if word == "-o" {
-                    expected = Expected::Out;
-                } else if word == "--help" {
-                    return Command::Help;
-                } else if word != "-" && word.as_bytes().starts_with(b"-") {
-                    return Command::Wrong("there is no such option");
-                } else if file.is_some() {
-                    return Command::Wrong("there is more than one FILE");
-                } else {
-                    file = Some(word);
-                }
+            "--help" => return Ok(None),
+            word => {
+                let file = file_name(word)?;
+                ensure!(writing.file.is_none(), "there is more than one FILE");
+                writing.file = Some(file);
             }
         }
     }
-    if !matches!(expected, Expected::Any) {
-        return Command::Wrong("an option lacks its word");
-    }
-    if redump {
-        return Command::Redump { to, out, file };
-    }
-    match to {
-        Some(to) => Command::Convert { to, out, file },
-        None => Command::Wrong("convert needs --to packed or --to lines"),
-    }
+    Ok(Some(writing))
 }
 
 // The words behind a command that takes at most a FILE.
-fn parse_file<'a>(words: &'a [String]) -> Result<Option<&'a str>, &'static str> {
+fn parse_file(words: &[String]) -> Result<Option<&str>> {
     match words {
         [] => Ok(None),
-        [word] => {
-            let word = word.as_str();
-            if word != "-" && word.as_bytes().starts_with(b"-") {
-                return Err("there is no such option");
-            }
-            Ok(Some(word))
-        }
-        _ => Err("there is more than one FILE"),
+        [word] => Ok(Some(file_name(word.as_str())?)),
+        _ => bail!("there is more than one FILE"),
     }
 }
 
-// What the words of the command line, the program's name first, ask for.
-pub fn parse<'a>(arguments: &'a [String]) -> Command<'a> {
-    if arguments.len() < 2 {
-        return Command::Wrong("there is no command");
-    }
-    let word = arguments[1].as_str();
-    if word == "convert" {
-        parse_writing(&arguments[2..], false)
-    } else if word == "redump" {
-        parse_writing(&arguments[2..], true)
-    } else if word == "check" {
-        match parse_file(&arguments[2..]) {
-            Ok(file) => Command::Check { file },
-            Err(why) => Command::Wrong(why),
+// What the words of the command line, the program's name first, ask for; an error tells why they ask for nothing.
+pub fn parse(arguments: &[String]) -> Result<Command<'_>> {
+    let [_, command, words @ ..] = arguments else {
+        bail!("there is no command");
+    };
+    match command.as_str() {
+        "convert" => {
+            let Some(writing) = parse_writing(words)? else {
+                return Ok(Command::Help);
+            };
+            Ok(Command::Convert {
+                to: writing
+                    .to
+                    .context("convert needs --to packed or --to lines")?,
+                out: writing.out,
+                file: writing.file,
+            })
         }
-    } else if word == "show" {
-        match parse_file(&arguments[2..]) {
-            Ok(file) => Command::Show { file },
-            Err(why) => Command::Wrong(why),
-        }
-    } else if word == "--help" || word == "-h" || word == "help" {
-        Command::Help
-    } else {
-        Command::Wrong("there is no such command")
+        "redump" => match parse_writing(words)? {
+            Some(Writing { to, out, file }) => Ok(Command::Redump { to, out, file }),
+            None => Ok(Command::Help),
+        },
+        "check" => Ok(Command::Check {
+            file: parse_file(words)?,
+        }),
+        "show" => Ok(Command::Show {
+            file: parse_file(words)?,
+        }),
+        "--help" | "-h" | "help" => Ok(Command::Help),
+        _ => bail!("there is no such command"),
     }
 }

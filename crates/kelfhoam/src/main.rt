@@ -4,12 +4,13 @@
 mod checking;
 mod command;
 mod converting;
-mod input;
+mod files;
+mod form;
+mod loading;
+mod outline;
 mod redumping;
 mod refusing;
-mod room;
 mod showing;
-mod words;
 
 use checking::run_check;
 use command::{Command, USAGE, parse};
@@ -22,18 +23,18 @@ use std::process::ExitCode;
 // Work that was refused, or a command line that is none, ends the program with status 1; what there is to say has been said. A failed read or
 // write, or a want of memory, is an error, which the runtime prints.
 fn main(rt: HostRuntime) -> anyhow::Result<ExitCode> {
-    let mut arguments = Vec::new(rt.alloc());
-    for argument in env::args(&rt)? {
-        arguments.push(argument)?;
-    }
-    match parse(arguments.as_slice()) {
+    let arguments: Vec<String> = env::args(&rt)?.collect(rt.alloc())?;
+    let command = match parse(arguments.as_slice()) {
+        Ok(command) => command,
+        Err(why) => {
+            eprint!(rt; "kelfhoam: {why}\n{USAGE}")?;
+            return Ok(ExitCode::FAILURE);
+        }
+    };
+    match command {
         Command::Help => {
             print!(rt; "{USAGE}")?;
             Ok(ExitCode::SUCCESS)
-        }
-        Command::Wrong(why) => {
-            eprint!(rt; "kelfhoam: {why}\n{USAGE}")?;
-            Ok(ExitCode::FAILURE)
         }
         Command::Convert { to, out, file } => run_convert(&rt, to, out, file),
         Command::Redump { to, out, file } => run_redump(&rt, to, out, file),

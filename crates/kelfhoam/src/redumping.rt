@@ -1,37 +1,25 @@
 // The command `redump`: loads every document, dumps each, and closes at the stream's end.
-use crate::input::{Form, count_events, form_name, form_of, read_input};
-use crate::refusing::{dump_line, load_line, stand_line};
-use crate::room::{MAX_STEPS, full_room};
-use composer::Tables;
+use crate::files::{read_input, write_output};
+use crate::form::{Form, with_reader, with_writer};
+use crate::refusing::{RefusedDump, RefusedLoad, RefusedStand};
 use convert::Survey;
 use convert::survey::look_over;
-use document::Refusal as StandRefusal;
-use document::limits::MAX_NODES;
-use dumper::{Refused, Why};
+use dumper::Why;
 use lines::{LineReader, LineWriter};
-use loader::Refusal as LoadRefusal;
 use packed::{PackedReader, PackedWriter};
-use redump::{Outcome, Totals, no_totals, redump};
+use redump::{Refusal, Totals, redump};
+use room::{DumpRoom, LoadRoom};
 use std::alloc::{AllocError, Global};
-use std::fs;
-use std::io::Write;
+use std::fmt;
 use std::process::ExitCode;
-use tables::Empty;
-use walk::{Counted, Step};
-use yaml::{Refusal, Sink, Source};
+use yaml::{Sink, Source};
 
 // Why nothing was redumped.
 #[derive(Drop)]
 pub enum Failure {
     Memory,
-    // a load was refused
-    Load(LoadRefusal),
-    // no Document stands on what a load gave
-    Stand(StandRefusal),
-    // a call of the writer was refused, after so many whole documents
-    Dump { refused: Refused, documents: usize },
-    // the output has no space for all events: a larger one is tried
-    NoSpace,
+    // a load or a call of the writer was refused, after so many whole documents
+    Refused { refusal: Refusal, documents: usize },
 }
 
 impl From<AllocError> for Failure {
@@ -40,47 +28,54 @@ impl From<AllocError> for Failure {
     }
 }
 
-// A refused call: want of space is told apart, since a larger output helps.
-fn failed(refused: Refused, documents: usize) -> Failure {
-    match refused.why {
-        Why::Sink {
-            node: _,
-            refusal: Refusal::NoSpace { size: _, space: _ },
-        } => Failure::NoSpace,
-        _ => Failure::Dump { refused, documents },
+impl Failure {
+    // The output has no space for all events, so that a larger one helps.
+    fn is_no_space(&self) -> bool {
+        let Failure::Refused {
+            refusal: Refusal::Dump(refused),
+            ..
+        } = self
+        else {
+            return false;
+        };
+        matches!(
+            refused.why,
+            Why::Sink {
+                refusal: yaml::Refusal::NoSpace { .. },
+                ..
+            }
+        )
     }
 }
 
-// Loads and dumps every document, in full-sized tables.
-fn redump_stream<S: Source + Drop, K: Sink + Drop>(
-    heap: Global,
-    source: S,
-    sink: K,
-) -> Result<Totals, Failure> {
-    let mut room = full_room(heap)?;
-    let mut counting = vec![in heap; Counted::none(); MAX_NODES]?;
-    let mut steps = vec![in heap; Step::none(); MAX_STEPS]?;
-    let mut tables = Tables::new(
-        room.nodes.as_mut_slice(),
-        room.links.as_mut_slice(),
-        room.text.as_mut_slice(),
-        room.anchors.as_mut_slice(),
-        room.waiting.as_mut_slice(),
-    );
-    let mut totals = no_totals();
-    let outcome = redump(
-        source,
-        sink,
-        &mut tables,
-        counting.as_mut_slice(),
-        steps.as_mut_slice(),
-        &mut totals,
-    );
-    match outcome {
-        Outcome::Done => Ok(totals),
-        Outcome::Load(refusal) => Err(Failure::Load(refusal)),
-        Outcome::Stand(refusal) => Err(Failure::Stand(refusal)),
-        Outcome::Dump(refused) => Err(failed(refused, totals.documents)),
+// A failure, and the input that it was met on.
+#[derive(Drop)]
+struct Failed<'a> {
+    failure: Failure,
+    input: &'a [u8],
+}
+
+impl<'a> fmt::Display for Failed<'a> {
+    fn fmt<W: fmt::Write>(&self, f: &mut fmt::Formatter<W>) -> fmt::Result {
+        if self.failure.is_no_space() {
+            return write!(f, "the output would be too large");
+        }
+        let Failure::Refused { refusal, documents } = &self.failure else {
+            return write!(f, "no memory");
+        };
+        match *refusal {
+            Refusal::Load(refusal) => RefusedLoad {
+                refusal,
+                input: self.input,
+            }
+            .fmt(f),
+            Refusal::Stand(refusal) => RefusedStand(refusal).fmt(f),
+            Refusal::Dump(refused) => RefusedDump {
+                refused,
+                documents: *documents,
+            }
+            .fmt(f),
+        }
     }
 }
 
@@ -92,99 +87,92 @@ pub struct Redumped {
     pub survey: Survey,
 }
 
-fn into_packed<S: Source + Drop>(
+// Loads and dumps every document, in full-sized tables.
+fn redump_stream<S: Source + Drop, K: Sink + Drop>(
     heap: Global,
     source: S,
+    sink: K,
+) -> Result<Totals, Failure> {
+    let mut load = LoadRoom::new(heap)?;
+    let mut dump = DumpRoom::new(heap)?;
+    let mut tables = load.tables();
+    let mut totals = Totals::default();
+    match redump(
+        source,
+        sink,
+        &mut tables,
+        dump.counting.as_mut_slice(),
+        dump.steps.as_mut_slice(),
+        &mut totals,
+    ) {
+        Ok(()) => Ok(totals),
+        Err(refusal) => Err(Failure::Refused {
+            refusal,
+            documents: totals.documents,
+        }),
+    }
+}
+
+// Redumps an input into an output of so many bytes.
+fn redump_once(
+    heap: Global,
+    input: &[u8],
+    from: Form,
+    to: Form,
     size: usize,
 ) -> Result<Redumped, Failure> {
     let mut bytes = vec![in heap; 0u8; size]?;
-    let mut out = PackedWriter::new(bytes.as_mut_slice());
-    let totals = redump_stream(heap, source, &mut out)?;
-    let used = out.finish().len();
+    let (totals, used) = with_reader!(from, input, reader => {
+        with_writer!(to, bytes.as_mut_slice(), writer => {
+            let totals = redump_stream(heap, reader, &mut writer)?;
+            (totals, writer.finish().len())
+        })
+    });
     bytes.truncate(used);
-    let survey = look_over(
-        &mut PackedReader::new(bytes.as_slice()),
-        &PackedWriter::new(&mut []),
-    );
+    let survey = with_reader!(to, bytes.as_slice(), reader => {
+        look_over(&mut reader, &PackedWriter::new(&mut []))
+    });
     Ok(Redumped {
         bytes,
         totals,
         survey,
     })
-}
-
-fn into_lines<S: Source + Drop>(heap: Global, source: S, size: usize) -> Result<Redumped, Failure> {
-    let mut bytes = vec![in heap; 0u8; size]?;
-    let mut out = LineWriter::new(bytes.as_mut_slice());
-    let totals = redump_stream(heap, source, &mut out)?;
-    let used = out.finish().len();
-    bytes.truncate(used);
-    let survey = look_over(
-        &mut LineReader::new(bytes.as_slice()),
-        &LineWriter::new(&mut []),
-    );
-    Ok(Redumped {
-        bytes,
-        totals,
-        survey,
-    })
-}
-
-fn redump_once(heap: Global, input: &[u8], to: Form, size: usize) -> Result<Redumped, Failure> {
-    match form_of(input) {
-        Form::Packed => match to {
-            Form::Packed => into_packed(heap, PackedReader::new(input), size),
-            Form::Lines => into_lines(heap, PackedReader::new(input), size),
-        },
-        Form::Lines => match to {
-            Form::Packed => into_packed(heap, LineReader::new(input), size),
-            Form::Lines => into_lines(heap, LineReader::new(input), size),
-        },
-    }
 }
 
 // Redumps an input; where the output turns out too small, once more into one twice as large.
-pub fn redump_input(heap: Global, input: &[u8], to: Form) -> Result<Redumped, Failure> {
+pub fn redump_input(heap: Global, input: &[u8], from: Form, to: Form) -> Result<Redumped, Failure> {
     let mut size = input.len().saturating_mul(4).saturating_add(4096);
-    for _ in 0..32 {
-        match redump_once(heap, input, to, size) {
-            Err(Failure::NoSpace) => size = size.saturating_mul(2),
+    for _ in 0..31 {
+        match redump_once(heap, input, from, to, size) {
+            Err(failure) if failure.is_no_space() => size = size.saturating_mul(2),
             done => return done,
         }
     }
-    Err(Failure::NoSpace)
+    redump_once(heap, input, from, to, size)
 }
 
-fn summary(
-    heap: Global,
+// What redumping is told by.
+#[derive(Drop)]
+struct Summary<'a> {
     from: Form,
     to: Form,
     bytes_in: usize,
-    redumped: &Redumped,
-) -> Result<String, AllocError> {
-    let from = form_name(from);
-    let to = form_name(to);
-    let t = redumped.totals;
-    let documents = t.documents;
-    let nodes = t.nodes;
-    let links = t.links;
-    let events = t.events;
-    let anchors = redumped.survey.anchors;
-    let kinds = redumped.survey.kinds;
-    let aliases = kinds[4];
-    let bytes_out = redumped.bytes.len();
-    format!(in heap;
-        "redumped {from} to {to}\ndocuments      {documents}\nnodes          {nodes}\nlinks          {links}\nanchors given  {anchors}\naliases        {aliases}\nevents         {events}\nbytes in       {bytes_in}\nbytes out      {bytes_out}\n"
-    )
+    redumped: &'a Redumped,
 }
 
-fn failure_line(heap: Global, failure: Failure, input: &[u8]) -> Result<String, AllocError> {
-    match failure {
-        Failure::Memory => String::from_str(heap, "kelfhoam: no memory\n"),
-        Failure::NoSpace => String::from_str(heap, "kelfhoam: the output would be too large\n"),
-        Failure::Stand(refusal) => stand_line(heap, refusal),
-        Failure::Load(refusal) => load_line(heap, refusal, input.len(), count_events(input)),
-        Failure::Dump { refused, documents } => dump_line(heap, refused, documents),
+impl<'a> fmt::Display for Summary<'a> {
+    fn fmt<W: fmt::Write>(&self, f: &mut fmt::Formatter<W>) -> fmt::Result {
+        let totals = &self.redumped.totals;
+        let survey = &self.redumped.survey;
+        writeln!(f, "redumped {} to {}", self.from, self.to)?;
+        writeln!(f, "documents      {}", totals.documents)?;
+        writeln!(f, "nodes          {}", totals.nodes)?;
+        writeln!(f, "links          {}", totals.links)?;
+        writeln!(f, "anchors given  {}", survey.anchors)?;
+        writeln!(f, "aliases        {}", survey.kinds[4])?;
+        writeln!(f, "events         {}", totals.events)?;
+        writeln!(f, "bytes in       {}", self.bytes_in)?;
+        writeln!(f, "bytes out      {}", self.redumped.bytes.len())
     }
 }
 
@@ -195,28 +183,26 @@ pub fn run_redump(
     out: Option<&str>,
     file: Option<&str>,
 ) -> anyhow::Result<ExitCode> {
-    let heap = rt.alloc();
     let input = read_input(rt, file)?;
-    let bytes = input.as_slice();
-    let from = form_of(bytes);
+    let from = Form::of(input.as_slice());
     let to = to.unwrap_or(from);
-    let redumped = match redump_input(heap, bytes, to) {
+    let redumped = match redump_input(rt.alloc(), input.as_slice(), from, to) {
         Ok(redumped) => redumped,
         Err(failure) => {
-            rt.eprint(failure_line(heap, failure, bytes)?)?;
+            let failed = Failed {
+                failure,
+                input: input.as_slice(),
+            };
+            eprintln!(rt; "kelfhoam: {failed}")?;
             return Ok(ExitCode::FAILURE);
         }
     };
-    let told = summary(heap, from, to, bytes.len(), &redumped)?;
-    match out {
-        Some(path) => {
-            fs::write(rt, path, redumped.bytes.as_slice())?;
-            rt.print(told)?;
-        }
-        None => {
-            rt.stdout().write_all(redumped.bytes.as_slice())?;
-            rt.eprint(told)?;
-        }
-    }
+    let summary = Summary {
+        from,
+        to,
+        bytes_in: input.len(),
+        redumped: &redumped,
+    };
+    write_output(rt, out, redumped.bytes.as_slice(), summary)?;
     Ok(ExitCode::SUCCESS)
 }

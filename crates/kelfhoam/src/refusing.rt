@@ -1,75 +1,98 @@
-// A refused load or dump in one line: number, place and cause.
-use crate::words::{dump_words, load_words, refusal_words};
-use composer::refusal::{refusal_mark, refusal_number};
-use document::Refusal as StandRefusal;
+// A refused load or dump in words: number, place and cause.
+use crate::form::{Form, with_reader};
+use convert::survey::look_over;
 use dumper::{Refused, Why};
+use lines::LineReader;
 use loader::Refusal;
-use std::alloc::{AllocError, Global};
-use yaml::event::cause_number;
+use packed::{PackedReader, PackedWriter};
+use std::fmt;
 
-// The line for a load that was refused on an input of so many bytes, of which so many events come.
-pub fn load_line(
-    heap: Global,
-    refusal: Refusal,
-    bytes: usize,
-    events: usize,
-) -> Result<String, AllocError> {
-    let number = refusal_number(refusal);
-    let why = load_words(refusal);
-    match refusal {
-        Refusal::SourceFault(fault) => {
-            let inner = cause_number(fault.cause);
-            let place = fault.place;
-            format!(in heap;
-                "kelfhoam: refused {number} at byte {place}, event {events}: the input has the fault {inner}: {why}\n"
-            )
-        }
-        Refusal::NoEvent => format!(in heap;
-            "kelfhoam: refused {number} at byte {bytes}, event {events}: {why}\n"
-        ),
-        Refusal::AnchorAgain { at, first } => {
-            let place = at.index;
-            let event = at.line;
-            let place_before = first.index;
-            let event_before = first.line;
-            format!(in heap;
-                "kelfhoam: refused {number} at byte {place}, event {event}: {why}, first at byte {place_before}, event {event_before}\n"
-            )
-        }
-        _ => {
-            let at = refusal_mark(refusal);
-            let place = at.index;
-            let event = at.line;
-            format!(in heap; "kelfhoam: refused {number} at byte {place}, event {event}: {why}\n")
+// A load that was refused, and the input that it was met on.
+#[derive(Drop)]
+pub struct RefusedLoad<'a> {
+    pub refusal: Refusal,
+    pub input: &'a [u8],
+}
+
+impl<'a> RefusedLoad<'a> {
+    // How many events come of the input before its end or its fault.
+    fn events(&self) -> usize {
+        let survey = with_reader!(Form::of(self.input), self.input, reader => {
+            look_over(&mut reader, &PackedWriter::new(&mut []))
+        });
+        survey.events
+    }
+}
+
+impl<'a> fmt::Display for RefusedLoad<'a> {
+    fn fmt<W: fmt::Write>(&self, f: &mut fmt::Formatter<W>) -> fmt::Result {
+        let refusal = self.refusal;
+        write!(f, "refused {} at byte ", refusal.number())?;
+        match refusal {
+            Refusal::SourceFault(fault) => write!(
+                f,
+                "{}, event {}: the input has the fault {}: {refusal}",
+                fault.place,
+                self.events(),
+                fault.cause.number()
+            ),
+            Refusal::NoEvent => {
+                write!(
+                    f,
+                    "{}, event {}: {refusal}",
+                    self.input.len(),
+                    self.events()
+                )
+            }
+            Refusal::AnchorAgain { at, first } => write!(
+                f,
+                "{}, event {}: {refusal}, first at byte {}, event {}",
+                at.index, at.line, first.index, first.line
+            ),
+            _ => {
+                let at = refusal.mark();
+                write!(f, "{}, event {}: {refusal}", at.index, at.line)
+            }
         }
     }
 }
 
-// The line for tables that a load gave and on which no Document stands.
-pub fn stand_line(heap: Global, refusal: StandRefusal) -> Result<String, AllocError> {
-    let number = refusal.question.number();
-    let node = refusal.node;
-    format!(in heap;
-        "kelfhoam: refused {number} at node {node}: no Document stands on the loaded tables\n"
-    )
+// Tables that a load gave and on which no Document stands.
+#[derive(Drop)]
+pub struct RefusedStand(pub document::Refusal);
+
+impl fmt::Display for RefusedStand {
+    fn fmt<W: fmt::Write>(&self, f: &mut fmt::Formatter<W>) -> fmt::Result {
+        write!(
+            f,
+            "refused {} at node {}: {}",
+            self.0.question.number(),
+            self.0.node,
+            self.0
+        )
+    }
 }
 
-// The line for a call of the writer that was refused, after so many documents were written whole.
-pub fn dump_line(heap: Global, refused: Refused, documents: usize) -> Result<String, AllocError> {
-    let number = refused.why.number();
-    let why = dump_words(refused.why);
-    let events = refused.events;
-    let document = documents.saturating_add(1);
-    match refused.why {
-        Why::NoAnchor(node) => format!(in heap;
-            "kelfhoam: refused {number} at document {document}, node {node}: {why}\n"
-        ),
-        Why::Sink { node, refusal } => {
-            let cause = refusal_words(refusal);
-            format!(in heap;
-                "kelfhoam: refused {number} at document {document}, node {node}, after {events} of its events: {why}: {cause}\n"
-            )
+// A call of the writer that was refused, after so many documents were written whole.
+#[derive(Drop)]
+pub struct RefusedDump {
+    pub refused: Refused,
+    pub documents: usize,
+}
+
+impl fmt::Display for RefusedDump {
+    fn fmt<W: fmt::Write>(&self, f: &mut fmt::Formatter<W>) -> fmt::Result {
+        let why = self.refused.why;
+        let document = self.documents.saturating_add(1);
+        write!(f, "refused {} at document {document}", why.number())?;
+        match why {
+            Why::NoAnchor(node) => write!(f, ", node {node}: {why}"),
+            Why::Sink { node, refusal } => write!(
+                f,
+                ", node {node}, after {} of its events: {why}: {refusal}",
+                self.refused.events
+            ),
+            _ => write!(f, ": {why}"),
         }
-        _ => format!(in heap; "kelfhoam: refused {number} at document {document}: {why}\n"),
     }
 }

@@ -3,33 +3,33 @@ use crate::told::{
     CallTold, LoadTold, RedumpTold, accepted, no_load, tell_call_refused, tell_no_document,
     tell_refused,
 };
-use composer::{Tables, refusal_number};
+use composer::Tables;
 use document::Node;
 use loader::Anchor;
 use packed::{PackedReader, PackedWriter};
-use redump::{Outcome, no_totals, redump};
+use redump::{Refusal, Totals, redump};
 use walk::{Counted, Step};
 
 // The number of an outcome: 0 where all was done, else the refusal's.
-fn outcome_number(outcome: Outcome, write: CallTold) -> u32 {
+fn outcome_number(outcome: Result<(), Refusal>, write: CallTold) -> u32 {
     match outcome {
-        Outcome::Done => 0,
-        Outcome::Load(refusal) => refusal_number(refusal) as u32,
-        Outcome::Stand(_) | Outcome::Dump(_) => (write.refusal & 0xff) as u32,
+        Ok(()) => 0,
+        Err(Refusal::Load(refusal)) => refusal.number() as u32,
+        Err(Refusal::Stand(_) | Refusal::Dump(_)) => (write.refusal & 0xff) as u32,
     }
 }
 
-fn outcome_load(outcome: Outcome) -> LoadTold {
+fn outcome_load(outcome: Result<(), Refusal>) -> LoadTold {
     match outcome {
-        Outcome::Load(refusal) => tell_refused(refusal),
+        Err(Refusal::Load(refusal)) => tell_refused(refusal),
         _ => no_load(),
     }
 }
 
-fn outcome_write(outcome: Outcome) -> CallTold {
+fn outcome_write(outcome: Result<(), Refusal>) -> CallTold {
     match outcome {
-        Outcome::Stand(refusal) => tell_no_document(refusal),
-        Outcome::Dump(refused) => tell_call_refused(refused),
+        Err(Refusal::Stand(refusal)) => tell_no_document(refusal),
+        Err(Refusal::Dump(refused)) => tell_call_refused(refused),
         _ => accepted(0),
     }
 }
@@ -50,7 +50,7 @@ pub extern "C" fn kelfhoam_redump(
 ) -> u32 {
     let mut tables = Tables::new(nodes, links, text, anchors, waiting);
     let mut packed = PackedWriter::new(out);
-    let mut totals = no_totals();
+    let mut totals = Totals::default();
     let outcome = redump(
         PackedReader::new(input),
         &mut packed,

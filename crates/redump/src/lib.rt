@@ -2,14 +2,13 @@
 #![tactic(auto)]
 
 use composer::Tables;
-use document::{Document, Handed};
 use dumper::{Refused, Writer};
-use loader::{Loaded, Loader, Refusal};
+use loader::{Loaded, Loader};
 use walk::{Counted, Step};
 use yaml::{Sink, Source};
 
 // What was loaded and dumped: whole documents, with their nodes and links, and the events taken.
-#[derive(Clone, Copy)]
+#[derive(Clone, Copy, PartialEq, Eq, Debug, Default)]
 pub struct Totals {
     pub documents: usize,
     pub nodes: usize,
@@ -17,80 +16,55 @@ pub struct Totals {
     pub events: usize,
 }
 
-pub fn no_totals() -> Totals {
-    Totals {
-        documents: 0,
-        nodes: 0,
-        links: 0,
-        events: 0,
+impl Totals {
+    // Counts the events that a call of the writer handed on, also where it was refused, and passes the refusal on.
+    fn count_call(&mut self, called: Result<usize, Refused>) -> Result<(), Refused> {
+        let events = match called {
+            Ok(events) => events,
+            Err(refused) => refused.events,
+        };
+        self.events = self.events.saturating_add(events);
+        called.map(|_| ())
+    }
+
+    // Counts a document that was loaded and dumped whole.
+    fn count_document(&mut self, loaded: &Loaded) {
+        self.documents = self.documents.saturating_add(1);
+        self.nodes = self.nodes.saturating_add(loaded.nodes);
+        self.links = self.links.saturating_add(loaded.links);
     }
 }
 
-// How it ended.
-#[must_use]
+// Why a stream was not redumped to its end.
 #[derive(Clone, Copy)]
-pub enum Outcome {
-    // every document was dumped, and the stream is closed
-    Done,
+pub enum Refusal {
     // a load was refused
-    Load(Refusal),
+    Load(loader::Refusal),
     // no Document stands on what a load gave
     Stand(document::Refusal),
     // a call of the writer was refused
     Dump(Refused),
 }
 
-// Dumps the document that was loaded into the tables.
-fn dump_loaded<K: Sink>(
-    writer: &mut Writer<K>,
-    tables: &Tables<'_>,
-    loaded: &Loaded,
-    counting: &mut [Counted],
-    steps: &mut [Step],
-    totals: &mut Totals,
-) -> Outcome {
-    let handed = Handed {
-        nodes: tables.nodes(),
-        links: tables.links(),
-        text: tables.text(),
-        count: loaded.nodes,
-        start_implicit: loaded.start_implicit,
-        end_implicit: loaded.end_implicit,
-    };
-    let d = match Document::stand(handed) {
-        Ok(d) => d,
-        Err(refusal) => return Outcome::Stand(refusal),
-    };
-    match writer.dump(d, counting, steps) {
-        Ok(events) => {
-            totals.documents = totals.documents.saturating_add(1);
-            totals.nodes = totals.nodes.saturating_add(loaded.nodes);
-            totals.links = totals.links.saturating_add(loaded.links);
-            totals.events = totals.events.saturating_add(events);
-            Outcome::Done
-        }
-        Err(refused) => {
-            totals.events = totals.events.saturating_add(refused.events);
-            Outcome::Dump(refused)
-        }
+impl From<loader::Refusal> for Refusal {
+    fn from(refusal: loader::Refusal) -> Refusal {
+        Refusal::Load(refusal)
     }
 }
 
-// Counts the events of a call, and tells how it ended.
-fn counted(called: Result<usize, Refused>, totals: &mut Totals) -> Outcome {
-    match called {
-        Ok(events) => {
-            totals.events = totals.events.saturating_add(events);
-            Outcome::Done
-        }
-        Err(refused) => {
-            totals.events = totals.events.saturating_add(refused.events);
-            Outcome::Dump(refused)
-        }
+impl From<document::Refusal> for Refusal {
+    fn from(refusal: document::Refusal) -> Refusal {
+        Refusal::Stand(refusal)
     }
 }
 
-// Loads and dumps document after document.
+impl From<Refused> for Refusal {
+    fn from(refused: Refused) -> Refusal {
+        Refusal::Dump(refused)
+    }
+}
+
+// Loads and dumps document after document, up to the stream's end.
 fn redump_documents<S: Source, K: Sink>(
     loader: &mut Loader<S>,
     writer: &mut Writer<K>,
@@ -98,20 +72,16 @@ fn redump_documents<S: Source, K: Sink>(
     counting: &mut [Counted],
     steps: &mut [Step],
     totals: &mut Totals,
-) -> Outcome {
+) -> Result<(), Refusal> {
     for _ in 0..usize::MAX {
-        match loader.load(tables) {
-            Ok(Some(loaded)) => {
-                match dump_loaded(writer, tables, &loaded, counting, steps, totals) {
-                    Outcome::Done => {}
-                    other => return other,
-                }
-            }
-            Ok(None) => return Outcome::Done,
-            Err(refusal) => return Outcome::Load(refusal),
-        }
+        let Some(loaded) = loader.load(tables)? else {
+            return Ok(());
+        };
+        let d = loaded.document(tables)?;
+        totals.count_call(writer.dump(d, counting, steps))?;
+        totals.count_document(&loaded);
     }
-    Outcome::Done
+    Ok(())
 }
 
 // The whole stream. What was taken before a refusal stands in the sink, and the totals tell it.
@@ -122,16 +92,11 @@ pub fn redump<S: Source + Drop, K: Sink + Drop>(
     counting: &mut [Counted],
     steps: &mut [Step],
     totals: &mut Totals,
-) -> Outcome {
-    *totals = no_totals();
+) -> Result<(), Refusal> {
+    *totals = Totals::default();
     let mut loader = Loader::new(source);
     let mut writer = Writer::new(sink);
-    match counted(writer.open(), totals) {
-        Outcome::Done => {}
-        other => return other,
-    }
-    match redump_documents(&mut loader, &mut writer, tables, counting, steps, totals) {
-        Outcome::Done => counted(writer.close(), totals),
-        other => other,
-    }
+    totals.count_call(writer.open())?;
+    redump_documents(&mut loader, &mut writer, tables, counting, steps, totals)?;
+    Ok(totals.count_call(writer.close())?)
 }

@@ -2,13 +2,8 @@
 // the file `stdout` beside this folder was made from the original).
 #![tactic(auto)]
 
-use std::io::{Read, Write};
-use transcript::tell_lists;
+use transcript::answer;
 
 fn main(rt: HostRuntime) -> anyhow::Result<()> {
-    let mut input = Vec::new(rt.alloc());
-    let _ = rt.stdin().read_to_end(&mut input)?;
-    let told = tell_lists(rt.alloc(), input.as_slice())?;
-    rt.stdout().write_all(told.as_slice())?;
-    Ok(())
+    Ok(answer(&rt)?)
 }

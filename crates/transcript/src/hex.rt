@@ -1,7 +1,7 @@
 // Lists as lines of hexadecimal digits.
 use std::alloc::{AllocError, Global};
 
-// The number of a digit; none for another byte.
+// The number of a digit; none for another byte. A capital is none, unlike in `char::to_digit`: the lists are written in small ones.
 pub fn digit(b: u8) -> Option<u8> {
     match b {
         b'0'..=b'9' => Some(b - b'0'),
@@ -10,25 +10,12 @@ pub fn digit(b: u8) -> Option<u8> {
     }
 }
 
-// The bytes of a line; what is no digit is passed over.
+// The bytes of a line; what is no digit is passed over, and so is a last digit that has no other beside it.
 pub fn bytes_of(heap: Global, line: &[u8]) -> Result<Vec<u8>, AllocError> {
-    let mut bytes = Vec::new(heap);
-    let mut half = None;
-    for b in line {
-        let Some(low) = digit(*b) else {
-            continue;
-        };
-        half = match half {
-            None => Some(low),
-            Some(high) => {
-                bytes.push(byte(high, low))?;
-                None
-            }
-        };
-    }
-    Ok(bytes)
-}
-
-fn byte(high: u8, low: u8) -> u8 {
-    (high & 15) * 16 + (low & 15)
+    let digits: Vec<u8> = line.iter().filter_map(|b| digit(*b)).collect(heap)?;
+    let (pairs, _) = digits.as_slice().as_chunks::<2>();
+    pairs
+        .iter()
+        .map(|pair| pair[0] << 4 | pair[1])
+        .collect(heap)
 }

@@ -2,9 +2,11 @@
 // stream's end, and the events written.
 #![tactic(auto)]
 
+pub mod answering;
 pub mod hex;
 pub mod listing;
+pub mod shown;
 pub mod telling;
-pub mod words;
 
+pub use answering::answer;
 pub use listing::tell_lists;

@@ -1,112 +1,109 @@
 // One list: its loads, and what is written again.
-use crate::words::{put, put_mark, put_number, put_spaced, put_text};
-use composer::{Tables, refusal_mark, refusal_number};
+use crate::shown::{Escaped, Place};
+use composer::Tables;
 use document::limits::MAX_NODES;
-use document::{Document, Handed, NodeKind};
+use document::Document;
 use dumper::{Refused, Why, Writer};
 use lines::LineWriter;
 use loader::{Loaded, Loader, Refusal};
 use packed::PackedReader;
-use std::alloc::AllocError;
-use walk::{Counted, Step};
+use room::{DumpRoom, LoadRoom};
+use std::alloc::{AllocError, Global};
+use std::io::{self, Write};
 use yaml::Sink;
-use yaml::event::cause_number;
 
-// A document was loaded.
-fn tell_loaded(out: &mut Vec<u8>, loaded: &Loaded) -> Result<(), AllocError> {
-    put(out, b"loaded nodes")?;
-    put_spaced(out, loaded.nodes as u64)?;
-    put(out, b" links")?;
-    put_spaced(out, loaded.links as u64)?;
-    put(out, b" implicit")?;
-    put_spaced(out, loaded.start_implicit as u64)?;
-    put_spaced(out, loaded.end_implicit as u64)?;
-    put_mark(out, b" from", loaded.start)?;
-    put_mark(out, b" to", loaded.end)?;
-    out.push(b'\n')?;
-    Ok(())
+// The lines that a document within the limits is written in have at most so many bytes.
+const LINES: usize = 1048576;
+
+// What lists are loaded into, dumped with and written into, one after the other.
+#[derive(Drop)]
+pub struct Desk {
+    load: LoadRoom,
+    dump: DumpRoom,
+    lines: Vec<u8>,
 }
 
-fn kind_number(kind: NodeKind) -> u64 {
-    match kind {
-        NodeKind::Scalar => 1,
-        NodeKind::Sequence => 2,
-        NodeKind::Mapping => 3,
+impl Desk {
+    pub fn new(heap: Global) -> Result<Desk, AllocError> {
+        Ok(Desk {
+            load: LoadRoom::new(heap)?,
+            dump: DumpRoom::new(heap)?,
+            lines: vec![in heap; 0u8; LINES]?,
+        })
     }
+}
+
+// A document was loaded.
+fn tell_loaded(out: &mut Vec<u8>, loaded: &Loaded) -> io::Result<()> {
+    writeln!(
+        out,
+        "loaded nodes {} links {} implicit {} {} from {} to {}",
+        loaded.nodes,
+        loaded.links,
+        loaded.start_implicit as u8,
+        loaded.end_implicit as u8,
+        Place(loaded.start),
+        Place(loaded.end)
+    )
 }
 
 // Kind, style and texts of a node.
-fn tell_look(out: &mut Vec<u8>, d: &Document<'_>, number: u32) -> Result<(), AllocError> {
+fn tell_look(out: &mut Vec<u8>, d: &Document<'_>, number: u32) -> io::Result<()> {
     if let Some(kind) = d.kind(number) {
-        put(out, b" kind")?;
-        put_spaced(out, kind_number(kind))?;
+        write!(out, " kind {}", u8::from(kind))?;
     }
     if let Some(style) = d.style(number) {
-        put(out, b" style")?;
-        put_spaced(out, style as u64)?;
+        write!(out, " style {style}")?;
     }
     if let Some(tag) = d.tag(number) {
-        put(out, b" tag ")?;
-        put_text(out, tag)?;
+        write!(out, " tag {}", Escaped(tag))?;
     }
     if let Some(value) = d.value(number) {
-        put(out, b" value ")?;
-        put_text(out, value)?;
+        write!(out, " value {}", Escaped(value))?;
     }
     Ok(())
 }
 
 // One node.
-fn tell_node(out: &mut Vec<u8>, d: &Document<'_>, number: u32) -> Result<(), AllocError> {
-    put(out, b"node")?;
-    put_spaced(out, number as u64)?;
+fn tell_node(out: &mut Vec<u8>, d: &Document<'_>, number: u32) -> io::Result<()> {
+    write!(out, "node {number}")?;
     tell_look(out, d, number)?;
-    put(out, b" links")?;
-    if let Some(links) = d.links(number) {
-        for link in links {
-            put_spaced(out, *link as u64)?;
-        }
+    write!(out, " links")?;
+    for link in d.links(number).unwrap_or(&[]) {
+        write!(out, " {link}")?;
     }
     if let Some(start) = d.start(number) {
-        put_mark(out, b" from", start)?;
+        write!(out, " from {}", Place(start))?;
     }
     if let Some(end) = d.end(number) {
-        put_mark(out, b" to", end)?;
+        write!(out, " to {}", Place(end))?;
     }
-    out.push(b'\n')?;
-    Ok(())
+    writeln!(out)
 }
 
 // A load was refused.
-fn tell_refusal(out: &mut Vec<u8>, refusal: Refusal) -> Result<(), AllocError> {
-    put(out, b"refused")?;
-    put_spaced(out, refusal_number(refusal) as u64)?;
+fn tell_refusal(out: &mut Vec<u8>, refusal: Refusal) -> io::Result<()> {
+    write!(out, "refused {}", refusal.number())?;
     match refusal {
         Refusal::EarlierRefused | Refusal::NoEvent => {}
         Refusal::SourceFault(fault) => {
-            put(out, b" fault")?;
-            put_spaced(out, cause_number(fault.cause) as u64)?;
-            put_spaced(out, fault.place)?;
+            write!(out, " fault {} {}", fault.cause.number(), fault.place)?;
         }
-        _ => put_mark(out, b" at", refusal_mark(refusal))?,
+        _ => write!(out, " at {}", Place(refusal.mark()))?,
     }
     if let Refusal::AnchorAgain { at: _, first } = refusal {
-        put_mark(out, b" first", first)?;
+        write!(out, " first {}", Place(first))?;
     }
-    out.push(b'\n')?;
-    Ok(())
+    writeln!(out)
 }
 
 // A call of the writer was refused.
-fn tell_why(out: &mut Vec<u8>, refused: Refused) -> Result<(), AllocError> {
-    put(out, b"not dumped")?;
-    put_spaced(out, refused.why.number() as u64)?;
+fn tell_why(out: &mut Vec<u8>, refused: Refused) -> io::Result<()> {
+    write!(out, "not dumped {}", refused.why.number())?;
     if let Why::NoAnchor(node) = refused.why {
-        put(out, b" node")?;
-        put_spaced(out, node as u64)?;
+        write!(out, " node {node}")?;
     }
-    out.push(b'\n')?;
-    Ok(())
+    writeln!(out)
 }
 
 // The nodes of a loaded document; then it is dumped.
@@ -115,27 +112,17 @@ fn tell_document<K: Sink>(
     tables: &Tables<'_>,
     loaded: &Loaded,
     writer: &mut Writer<K>,
-    counting: &mut [Counted],
-    steps: &mut [Step],
-) -> Result<(), AllocError> {
+    dump: &mut DumpRoom,
+) -> io::Result<()> {
     tell_loaded(out, loaded)?;
-    let handed = Handed {
-        nodes: tables.nodes(),
-        links: tables.links(),
-        text: tables.text(),
-        count: loaded.nodes,
-        start_implicit: loaded.start_implicit,
-        end_implicit: loaded.end_implicit,
-    };
-    let d = Document::stand(handed).unwrap_or(Document::empty());
-    for i in 0..MAX_NODES as u32 {
-        let number = i + 1;
+    let d = loaded.document(tables).unwrap_or(Document::empty());
+    for number in 1..MAX_NODES as u32 + 1 {
         if d.kind(number).is_none() {
             break;
         }
         tell_node(out, &d, number)?;
     }
-    match writer.dump(d, counting, steps) {
+    match writer.dump(d, dump.counting.as_mut_slice(), dump.steps.as_mut_slice()) {
         Ok(_) => Ok(()),
         Err(refused) => tell_why(out, refused),
     }
@@ -145,17 +132,17 @@ fn tell_document<K: Sink>(
 fn tell_loads<K: Sink>(
     out: &mut Vec<u8>,
     list: &[u8],
-    tables: &mut Tables<'_>,
+    load: &mut LoadRoom,
+    dump: &mut DumpRoom,
     writer: &mut Writer<K>,
-    counting: &mut [Counted],
-    steps: &mut [Step],
-) -> Result<(), AllocError> {
+) -> io::Result<()> {
+    let mut tables = load.tables();
     let mut loader = Loader::new(PackedReader::new(list));
     for _ in 0..list.len().saturating_add(1) {
-        match loader.load(tables) {
-            Ok(Some(loaded)) => tell_document(out, tables, &loaded, writer, counting, steps)?,
+        match loader.load(&mut tables) {
+            Ok(Some(loaded)) => tell_document(out, &tables, &loaded, writer, dump)?,
             Ok(None) => {
-                put(out, b"ended\n")?;
+                writeln!(out, "ended")?;
                 if let Err(refused) = writer.close() {
                     tell_why(out, refused)?;
                 }
@@ -167,37 +154,18 @@ fn tell_loads<K: Sink>(
     Ok(())
 }
 
-// How many lines some bytes are.
-fn lines_in(bytes: &[u8]) -> u64 {
-    let mut lines = 0u64;
-    for b in bytes {
-        if *b == b'\n' {
-            lines = lines.saturating_add(1);
-        }
-    }
-    lines
-}
-
-// One list, with room for what is written.
-pub fn tell_list(
-    out: &mut Vec<u8>,
-    list: &[u8],
-    tables: &mut Tables<'_>,
-    counting: &mut [Counted],
-    steps: &mut [Step],
-    room: &mut [u8],
-) -> Result<(), AllocError> {
-    let mut sink = LineWriter::new(room);
+// One list.
+pub fn tell_list(out: &mut Vec<u8>, list: &[u8], desk: &mut Desk) -> io::Result<()> {
+    let mut sink = LineWriter::new(desk.lines.as_mut_slice());
     {
         let mut writer = Writer::new(&mut sink);
         if let Err(refused) = writer.open() {
             tell_why(out, refused)?;
         }
-        tell_loads(out, list, tables, &mut writer, counting, steps)?;
+        tell_loads(out, list, &mut desk.load, &mut desk.dump, &mut writer)?;
     }
     let written = sink.finish();
-    put(out, b"dumped ")?;
-    put_number(out, lines_in(written))?;
-    out.push(b'\n')?;
-    put(out, written)
+    let lines = written.iter().filter(|b| **b == b'\n').count();
+    writeln!(out, "dumped {lines}")?;
+    out.write_all(written)
 }

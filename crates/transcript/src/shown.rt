@@ -1,0 +1,34 @@
+// How a mark and a text are shown.
+use lines::escape;
+use model::Mark;
+use std::fmt::{self, Write};
+
+// A mark: the byte, the event and the column where something begins or ends.
+#[derive(Drop)]
+pub struct Place(pub Mark);
+
+impl fmt::Display for Place {
+    fn fmt<W: fmt::Write>(&self, f: &mut fmt::Formatter<W>) -> fmt::Result {
+        write!(f, "{} {} {}", self.0.index, self.0.line, self.0.column)
+    }
+}
+
+// A text as the line format escapes it.
+#[derive(Drop)]
+pub struct Escaped<'a>(pub &'a [u8]);
+
+impl<'a> fmt::Display for Escaped<'a> {
+    fn fmt<W: fmt::Write>(&self, f: &mut fmt::Formatter<W>) -> fmt::Result {
+        for b in self.0 {
+            match escape(*b) {
+                None => f.write_char(char::from(*b))?,
+                Some(escaped) => {
+                    for b in escaped {
+                        f.write_char(char::from(b))?;
+                    }
+                }
+            }
+        }
+        Ok(())
+    }
+}
