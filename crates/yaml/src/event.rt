@@ -23,7 +23,8 @@ pub struct Event<'a> {
     pub value: &'a [u8],
 }
 
-// An event as sources give it: with the marks of its two ends, and its texts by their lengths, to be read byte by byte.
+// An event as sources give it: with the marks of its two ends, and its texts by their lengths, to be read byte by byte. It lists what a Shape
+// lists and has no Shape inside: who reads a head names a field at a time, and head.kind is plainer than head.shape.kind.
 #[derive(Clone, Copy)]
 pub struct Head {
     pub kind: EventKind,
