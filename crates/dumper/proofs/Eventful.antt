@@ -6,10 +6,10 @@ use mir.Val.{bool_byte as from_bool}
 use Rattle.model.specs.declared.EventKind.{EventKind}
 use Rattle.model.specs.declared.NodeKind.{NodeKind}
 use Rattle.model.specs.Events.{Ev, allowed, all_allowed}
-use Rattle.model.specs.Graph.{Vertex, numbered}
+use Rattle.model.specs.Graph.{Vertex, Book}
 use Rattle.serial.specs.Walk.{Token, first, again, leave}
 use Rattle.serial.specs.Numbering.{number_of, anchor_of}
-use Rattle.serial.specs.Serialize.{same_bytes, default_tag, all_flags, start_kind, end_kind, plain, token_events, walk_events}
+use Rattle.serial.specs.Serialize.{same_bytes, default_tag, all_flags, start_kind, end_kind, plain, token_events, walk_events, book_events}
 use Rattle.document.specs.Reads.{given, kind_in, style_in, tag_in, value_in}
 use Rattle.runs.specs.Writer.{due_of, node_of, token_dues, walk_dues}
 use Rattle.runs.proofs.Answering.{walk_dues_append}
@@ -35,6 +35,10 @@ byte_told false = refl
 
 pub bound_told : (k : EventKind) (e : Ev) (a : Bool) (n : ℕ) (b : Bool) → e ≡ plain k n → n ≡ from_bool a → a ≡ b → due_of 0 e ∷ [] ≡ due_of 0 (plain k (cond b 1 0)) ∷ []
 bound_told k e a n b p q r = ap (λ x. due_of 0 x ∷ []) (p ∙ ap (plain k) (q ∙ ap from_bool r ∙ byte_told b))
+
+-- of a document's events, those of its walk are allowed if all are
+pub walk_allowed : (b : Book) (ts : List Token) → all_allowed (book_events b ts) ≡ true → all_allowed (walk_events (anchor_of b.nodes) b.nodes ts) ≡ true
+walk_allowed b ts a = front_allowed (walk_events (anchor_of b.nodes) b.nodes ts) _ (and_parts _ _ a).1
 
 -- of some events, the others are allowed if all are
 rest_allowed : (xs ys : List Ev) → all_allowed (xs ++ ys) ≡ true → all_allowed ys ≡ true

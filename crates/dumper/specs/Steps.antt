@@ -17,11 +17,6 @@ token_of s = cond (s.what == 1) (first s.node) (cond (s.what == 2) (again s.node
 abbrev pub tokens_of : List Step → List Token
 tokens_of ss = map token_of ss
 
--- the counting table has the number of each node's anchor
-pub record Numbers (g : List Vertex) (t : List Counted) : Type 0 where
-  pub anchors : (v : ℕ) → (entry_at t v).anchor ≡ number_of g v
-  pub few : (v : ℕ) → number_of g v ≤ 4096
-
 -- the event of a step, if there is one
 abbrev pub listed : Option Event → List Ev
 listed None = []

@@ -4,6 +4,7 @@
 pub mod answer;
 mod event;
 mod outlet;
+mod planned;
 pub mod writer;
 
 pub use answer::{Refused, Why};

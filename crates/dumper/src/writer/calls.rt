@@ -10,6 +10,7 @@ ghost use Rattle.dumper.specs.Calls.{Made, LawFrom, handed, Told, Rests};
 use super::Writer;
 use crate::answer::{Refused, Why};
 use crate::outlet::Outlet;
+use crate::planned::Planned;
 use document::Document;
 use walk::{Counted, Step, Unplanned, clear_plan, make_plan};
 use yaml::Sink;
@@ -103,7 +104,14 @@ impl<S: Sink> Writer<S> {
         d.sound();
         self.outlet.count_anew();
         match make_plan(d, counting, steps, &mut self.last_anchor_id) {
-            Ok(count) => self.write(d, counting, &steps[..count])?,
+            Ok(count) => {
+                let planned = Planned {
+                    d,
+                    counting,
+                    steps: &steps[..count],
+                };
+                self.write(&planned)?
+            }
             Err(Unplanned::NoNodes) => self.write_nothing()?,
             Err(Unplanned::TooFewCounts) => return Err(Why::TooFewCounts.into()),
             Err(Unplanned::TooDeep) => return Err(Why::TooDeep.into()),

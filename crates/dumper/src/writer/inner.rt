@@ -1,17 +1,14 @@
 // What a call hands on once its questions are passed.
-ghost use Rattle.std.specs.Prelude.{◌≡◌, true, false, ◌++◌};
-ghost use Rattle.model.specs.Events.{all_allowed};
-ghost use Rattle.serial.specs.Serialize.{book_events};
+ghost use Rattle.std.specs.Prelude.{◌≡◌, false, ◌++◌};
 ghost use Rattle.document.specs.Books.{book_of};
 ghost use Rattle.runs.specs.Writer.{start_due, end_due, book_dues};
-ghost use Rattle.dumper.specs.Steps.{tokens_of, Numbers};
+ghost use Rattle.dumper.specs.Steps.{tokens_of};
 ghost use Rattle.dumper.specs.States.{Wrote};
 
 use super::Writer;
 use crate::answer::Refused;
 use crate::event::plain;
-use document::Document;
-use walk::{Counted, Step};
+use crate::planned::Planned;
 use yaml::{EventKind, Sink};
 
 impl<S: Sink> Writer<S> {
@@ -46,20 +43,13 @@ impl<S: Sink> Writer<S> {
     }
 
     // Starts the stream if need be, and hands on the planned Document. Where it breaks off after its start the writer is spoilt.
-    pub(crate) fn write(
-        &mut self,
-        d: &Document<'_>,
-        counting: &[Counted],
-        steps: &[Step],
-    ) -> Result<(), Refused>
-        requires unspoilt { self.old.spoilt ≡ false }
-        requires numbers { Numbers (book_of d.now).nodes counting.now }
-        requires allowed { all_allowed (book_events (book_of d.now) (tokens_of steps.now)) ≡ true }
-        ensures { Wrote self.old (start_due self.old.opened ++ book_dues (book_of d.now) (tokens_of steps.now)) result self.new }
+    pub(crate) fn write(&mut self, planned: &Planned<'_, '_>) -> Result<(), Refused>
+        requires { self.old.spoilt ≡ false }
+        ensures { Wrote self.old (start_due self.old.opened ++ book_dues (book_of planned.now.d.now) (tokens_of planned.now.steps.now)) result self.new }
     {
         self.start()?;
         let begun = self.outlet.events();
-        let written = self.outlet.dump_document(d, counting, steps);
+        let written = self.outlet.dump_document(planned);
         if written.is_err() {
             self.spoilt = begun < self.outlet.events();
         }

@@ -14,20 +14,15 @@ use Rattle.dumper.proofs.outlet.Outlet.dump_document.Goals as goal
 
 pub returns-in_err-hand : goal.returns-in_err-hand
 returns-in_err-hand g c =
-    let b = book_of c.args.d.now in
+    let b = book_of c.args.planned.now.d.now in
     let start = bound_told DocumentStart _ _ c.from.result _ c.plain-start.ensures c.from.ensures c.start_implicit.ensures in
     hands_left (err_from_is_err_and c.from_residual.result c.from_residual.ensures.1)
-    (cut_before (walk_dues (anchor_of b.nodes) b.nodes (tokens_of c.args.steps.now) ++ due_of 0 (plain DocumentEnd (cond b.end_implicit 1 0)) ∷ [])
+    (cut_before (walk_dues (anchor_of b.nodes) b.nodes (tokens_of c.args.planned.now.steps.now) ++ due_of 0 (plain DocumentEnd (cond b.end_implicit 1 0)) ∷ [])
     (hands_as start c.in_err-hand.ensures))
-
-pub dump_steps-requires-clause-allowed : goal.dump_steps-requires-clause-allowed
-dump_steps-requires-clause-allowed g c =
-    let b = book_of c.args.d.now in
-    front_allowed (walk_events (anchor_of b.nodes) b.nodes (tokens_of c.args.steps.now)) (plain DocumentEnd (cond b.end_implicit 1 0) ∷ []) (and_parts _ _ c.requires.allowed).1
 
 pub returns-in_err-dump_steps : goal.returns-in_err-dump_steps
 returns-in_err-dump_steps g c =
-    let b = book_of c.args.d.now in
+    let b = book_of c.args.planned.now.d.now in
     let start = bound_told DocumentStart _ _ c.from.result _ c.plain-start.ensures c.from.ensures c.start_implicit.ensures in
     hands_left (err_from_is_err_and c.from_residual-in_err-dump_steps.result c.from_residual-in_err-dump_steps.ensures.1)
     (hands_then (all_of (hands_as start c.in_ok-hand.ensures))

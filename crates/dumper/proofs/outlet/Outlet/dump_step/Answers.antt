@@ -10,6 +10,6 @@ use Rattle.dumper.proofs.outlet.Outlet.dump_step.Goals as goal
 
 pub returns-in-Some : goal.returns-in-Some
 returns-in-Some g c =
-    let graph = (book_of c.args.d.now).nodes in
+    let graph = (book_of c.args.planned.now.d.now).nodes in
     let es = token_events (anchor_of graph) graph (token_of c.args.step) in
     hands_as (ap (map (due_of c.args.step.node)) c.in-Some.ensures ∙ ap (λ v. map (due_of v) es) (sym (node_told c.args.step))) c.hand.ensures

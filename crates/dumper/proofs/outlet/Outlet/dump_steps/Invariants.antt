@@ -10,5 +10,5 @@ use Rattle.dumper.proofs.outlet.Outlet.dump_steps.Given as goal
 abbrev pub invariant-loop-step : goal.invariant-loop-step
 invariant-loop-step g l =
     AllIn g.S.Sink.weight (g.S.Sink.view l.initial.self.sink) l.initial.self.events
-    (walk_dues (anchor_of (book_of l.d).nodes) (book_of l.d).nodes (tokens_of (take l.step-index l.steps)))
+    (walk_dues (anchor_of (book_of l.planned.d.now).nodes) (book_of l.planned.d.now).nodes (tokens_of (take l.step-index l.planned.steps.now)))
     (g.S.Sink.view l.self.sink) l.self.events

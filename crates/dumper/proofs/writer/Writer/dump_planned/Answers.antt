@@ -12,8 +12,8 @@ use Rattle.dumper.proofs.Going.{went_of}
 use Rattle.dumper.proofs.writer.Writer.dump_planned.Goals.{else-self-2-via-then-self-2+else-len-gt0, else-self-2-via-else-self-2, in-Ok+in_ok-write-in-Ok, in-Err-NoNodes+in_ok-write_nothing-in-Err-NoNodes}
 use Rattle.dumper.proofs.writer.Writer.dump_planned.Goals as goal
 
-pub write-requires-clause-allowed : goal.write-requires-clause-allowed
-write-requires-clause-allowed g c =
+pub invariant_of-planned-clause-allowed : goal.invariant_of-planned-clause-allowed
+invariant_of-planned-clause-allowed g c =
     let h = handed (book_of c.args.d.now) (length c.args.counting.now) (length c.args.steps.now) in
     planned_allowed (state_of g.S.Sink.view c.args.self.now) h c.args.steps.now c.in-Ok.count c.make_plan.new.counting c.make_plan.new.steps c.in-Ok.ensures.plan c.sound.ensures
 
