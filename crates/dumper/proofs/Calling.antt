@@ -1,5 +1,5 @@
 -- The questions of a call, and its answer.
-use Rattle.std.proofs.Common.{◌≡◌, ℕ, ◌≤◌, true, false, List, [], ◌∷◌, ◌++◌, map, length, take, drop, Ok, Err, Result, sym, refl, ap, ◌∙◌, subst, arith}
+use Rattle.std.proofs.Common.{◌≡◌, ℕ, true, false, List, [], ◌∷◌, ◌++◌, map, length, take, drop, Err, Result, sym, refl, ap, ◌∙◌, subst, arith}
 use mathlib.Core.List.{Memᴰ}
 use Rattle.std.proofs.lemmas.List.{take_at, length-map}
 use Rattle.model.specs.Events.{Ev, all_allowed}
@@ -27,7 +27,7 @@ module _ (weight : Ev → ℕ) (c : Call) {s₁ s t : State} {n m : ℕ} (ds : L
       record { dues = ds; passed = passed; wanted = wanted; counted = let k = w.counted in omega arith; took = w.took; spoilt = w.spoilt }
 
   pub called_short : {r : Result ℕ Refused} {f : Refused} → ((x : Refused) × (r ≡ Err x) × (x ≡ f)) → Goes weight s₁ n ds (Err f) t m → Called weight c s (answer_of r) t
-  called_short p (went e w) = let z : ◌≡◌ {A = ℕ} 0 1 = cc in absurd (omega (arith, z))
+  called_short p (went e w) = cc
   called_short {r} {f} p (broke {node} {size} {space} e b₁) =
       let b = subst (λ x. Broke weight x n ds node size space t m) same b₁ in
       let cut : ◌≡◌ {A = Result ℕ Refused} (Err (record { events = m; why = Sink node (NoSpace size space) })) r = cc in

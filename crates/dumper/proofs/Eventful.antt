@@ -1,23 +1,18 @@
 -- The events of steps, read off a Document.
-use Rattle.std.proofs.Common.{◌≡◌, ℕ, ◌+◌, ◌-◌, ◌<◌, Bool, true, false, cond, eqb, List, [], ◌∷◌, ◌++◌, length, get_or, take, drop, Some, None, Option, sym, refl, ap, ◌∙◌, arith}
+use Rattle.std.proofs.Common.{◌≡◌, ℕ, ◌+◌, ◌<◌, Bool, true, false, cond, eqb, List, [], ◌∷◌, ◌++◌, length, get_or, take, drop, sym, refl, ap, ◌∙◌}
 use Rattle.std.proofs.lemmas.List.{append_assoc, append-nil, map-append, take_more, drop_more, take-append-drop}
-use Rattle.std.proofs.lemmas.Bool.{and_parts, and_from, cond-true, cond-false, eq-eqb, ne_eqb}
+use Rattle.std.proofs.lemmas.Bool.{and_parts}
 use mir.Val.{bool_byte as from_bool}
 use Rattle.model.specs.declared.EventKind.{EventKind}
-use Rattle.model.specs.declared.NodeKind.{NodeKind}
 use Rattle.model.specs.Events.{Ev, allowed, all_allowed}
 use Rattle.model.specs.Graph.{Vertex, Book}
 use Rattle.serial.specs.Walk.{Token, first, again, leave}
-use Rattle.serial.specs.Numbering.{number_of, anchor_of}
-use Rattle.serial.specs.Serialize.{same_bytes, default_tag, all_flags, start_kind, end_kind, plain, token_events, walk_events, book_events}
-use Rattle.document.specs.Reads.{given, kind_in, style_in, tag_in, value_in}
+use Rattle.serial.specs.Numbering.{anchor_of}
+use Rattle.serial.specs.Serialize.{plain, token_events, walk_events, book_events}
 use Rattle.runs.specs.Writer.{due_of, node_of, token_dues, walk_dues}
 use Rattle.runs.proofs.Answering.{walk_dues_append}
 use Rattle.runs.proofs.Pieces.{front_allowed}
-use Rattle.walk.specs.declared.name.AnchorName.{AnchorName}
 use Rattle.walk.specs.declared.entry.Step.{Step}
-use Rattle.walk.specs.Names.{name_in}
-use Rattle.dumper.specs.Names.{name_of}
 use Rattle.dumper.specs.Steps.{token_of, tokens_of}
 
 -- a step is about its node

@@ -1,6 +1,6 @@
 -- How the events of a call go on from one writer's state to another.
-use Rattle.std.proofs.Common.{◌≡◌, ℕ, ◌+◌, Bool, true, false, ◌||◌, ltb, ◌⊎◌, List, [], ◌∷◌, ◌++◌, length, Ok, Err, Result, is_err, sym, refl, ap, ◌∙◌, subst, inl, inr, arith}
-use Rattle.std.proofs.lemmas.List.{append_assoc, append-nil, length-append}
+use Rattle.std.proofs.Common.{◌≡◌, ℕ, ◌+◌, Bool, true, false, ◌||◌, ltb, ◌⊎◌, List, [], ◌∷◌, ◌++◌, length, Ok, Err, Result, is_ok, is_err, sym, refl, ap, ◌∙◌, subst, inl, inr, arith}
+use Rattle.std.proofs.lemmas.List.{append_assoc, length-append}
 use Rattle.std.proofs.lemmas.Bool.{or_parts, both_ways, lt-ltb, le-ltb}
 use Rattle.model.specs.declared.EventKind.{EventKind}
 use Rattle.model.specs.declared.EventKind.TheVariants.{StreamStart, StreamEnd, DocumentStart}
@@ -8,11 +8,11 @@ use Rattle.model.specs.Events.{Ev}
 use Rattle.model.specs.Graph.{Book}
 use Rattle.serial.specs.Walk.{Token}
 use Rattle.yaml.specs.View.{View}
-use Rattle.runs.specs.Writer.{State, Due, due_of, events, has_kind, stream_start, stream_end, start_due, end_due, book_dues, Took}
+use Rattle.runs.specs.Writer.{State, Due, events, has_kind, start_due, end_due, book_dues, Took}
 use Rattle.runs.proofs.Wanted.{events_append, total_append, kind_append, book_no_start, book_no_end}
 use Rattle.runs.proofs.Moves.{cut_cases, no_cut}
 use Rattle.dumper.specs.declared.answer.Refused.{Refused}
-use Rattle.dumper.specs.Handing.{AllIn, SomeIn, Hands, all_in, some_in}
+use Rattle.dumper.specs.Handing.{once_due, AllIn, SomeIn, Hands, all_in, some_in}
 use Rattle.dumper.specs.States.{state_by, Went, Broke, Goes, went, broke}
 
 or_none : (x b : Bool) → b ≡ false → x ≡ (x || b)
@@ -92,12 +92,12 @@ module _ {weight : Ev → ℕ} where
 
   module _ {s t : State} {n m : ℕ} {xs : List Due} where
     pub goes_before : {c : Refused} (ys : List Due) → Goes weight s n xs (Err c) t m → Goes weight s n (xs ++ ys) (Err c) t m
-    goes_before ys (went e b) = let z : ◌≡◌ {A = ℕ} 0 1 = cc in absurd (omega (arith, z))
+    goes_before ys (went e b) = cc
     goes_before ys (broke e b) = broke e (broke_before ys b)
 
     pub went_of : {u : Unit {0}} → Goes weight s n xs (Ok u) t m → Went weight s n xs t m
     went_of (went e b) = b
-    went_of (broke e b) = let z : ◌≡◌ {A = ℕ} 0 1 = cc in absurd (omega (arith, z))
+    went_of (broke e b) = cc
 
     pub goes_left : {r : Result (Unit {0}) Refused} {c : Refused} → ((x : Refused) × (r ≡ Err x) × (x ≡ c)) → Goes weight s n xs (Err c) t m → Goes weight s n xs r t m
     goes_left p h = subst (λ q. Goes weight s n xs q t m) (sym (p.1 ∙ ap Err p.2)) h
@@ -152,10 +152,26 @@ module _ {weight : Ev → ℕ} {v v' : View} {n m : ℕ} where
         too_large = b.too_large;
       }
 
-  -- it was refused, and nothing else alters
-  pub one_cut : (o c p : Bool) {d : Due} {f : Refused} → Hands weight v n (d ∷ []) (Err f) v' m → Goes weight (state_by o c p v) n (d ∷ []) (Err f) (state_by o c p v') m
-  one_cut o c p (all_in e b) = let z : ◌≡◌ {A = ℕ} 0 1 = cc in absurd (omega (arith, z))
-  one_cut o c p (some_in e b) = broke e (one_broke o c p b)
+  nothing_goes : (o c p : Bool) {r : Result (Unit {0}) Refused} → Hands weight v n [] r v' m → Goes weight (state_by o c p v) n [] r (state_by o c p v') m
+  nothing_goes o c p (all_in e a) =
+      went e (record { took = record { taken = a.taken; room = a.room; opened = or_none o false refl; closed = or_none c false refl }; spoilt = refl; counted = a.counted })
+  nothing_goes o c p (some_in e s) = absurd (no_cut s.done s.next_one s.left (sym s.split))
+
+  pub start_goes : (o o' c p : Bool) {r : Result (Unit {0}) Refused} → o' ≡ (o || is_ok r) → Hands weight v n (once_due StreamStart o) r v' m
+      → Goes weight (state_by o c p v) n (start_due o) r (state_by o' c p v') m
+  start_goes true o' c p {r} is h = subst (λ q. Goes weight (state_by true c p v) n [] r (state_by q c p v') m) (sym is) (nothing_goes true c p h)
+  start_goes false o' c p is (all_in e a) =
+      went e (record { took = record { taken = a.taken; room = a.room; opened = is ∙ ap is_ok e; closed = or_none c false refl }; spoilt = refl; counted = a.counted })
+  start_goes false o' c p {r} is (some_in e s) =
+      subst (λ q. Goes weight (state_by false c p v) n (start_due false) r (state_by q c p v') m) (sym (is ∙ ap is_ok e)) (broke e (one_broke false c p s))
+
+  pub end_goes : (o c c' p : Bool) {r : Result (Unit {0}) Refused} → c' ≡ (c || is_ok r) → Hands weight v n (once_due StreamEnd c) r v' m
+      → Goes weight (state_by o c p v) n (end_due c) r (state_by o c' p v') m
+  end_goes o true c' p {r} is h = subst (λ q. Goes weight (state_by o true p v) n [] r (state_by o q p v') m) (sym is) (nothing_goes o true p h)
+  end_goes o false c' p is (all_in e a) =
+      went e (record { took = record { taken = a.taken; room = a.room; opened = or_none o false refl; closed = is ∙ ap is_ok e }; spoilt = refl; counted = a.counted })
+  end_goes o false c' p {r} is (some_in e s) =
+      subst (λ q. Goes weight (state_by o false p v) n (end_due false) r (state_by o q p v') m) (sym (is ∙ ap is_ok e)) (broke e (one_broke o false p s))
 
   -- a document, whole or broken off
   module _ (b : Book) (ts : List Token) where
@@ -198,12 +214,6 @@ module _ {weight : Ev → ℕ} {v v' : View} {n m : ℕ} where
     pub book_cut : (o c p q : Bool) {r : Result (Unit {0}) Refused} → is_err r ≡ true → p ≡ false → q ≡ ltb n m → Hands weight v n (book_dues b ts) r v' m → Goes weight (state_by o c p v) n (book_dues b ts) r (state_by o c q v') m
     book_cut o c p q cut none is (all_in e a) = absurd (both_ways _ (ap is_err e) cut)
     book_cut o c p q cut none is (some_in e s) = broke e (book_broke o c p q none is s)
-
-pub start_is : (o : Bool) → o ≡ false → due_of 0 stream_start ∷ [] ≡ start_due o
-start_is o e = ap start_due (sym e)
-
-pub end_is : (c : Bool) → c ≡ false → due_of 0 stream_end ∷ [] ≡ end_due c
-end_is c e = ap end_due (sym e)
 
 pub start_no_document : (o : Bool) → has_kind DocumentStart (start_due o) ≡ false
 start_no_document true = refl

@@ -1,11 +1,11 @@
 -- Handing on some events and then others.
-use Rattle.std.proofs.Common.{◌≡◌, ℕ, ◌+◌, Bool, true, false, List, [], ◌∷◌, ◌++◌, Ok, Err, Decides, Result, sym, refl, ap, ◌∙◌, subst, arith}
+use Rattle.std.proofs.Common.{◌≡◌, ℕ, Bool, true, false, List, [], ◌∷◌, ◌++◌, Ok, Err, Decides, Result, sym, refl, ap, ◌∙◌, subst, arith}
 use Rattle.std.proofs.lemmas.List.{append_assoc, append-nil, length-append}
 use Rattle.std.proofs.lemmas.Bool.{both_ways}
 use Rattle.model.specs.Events.{Ev, allowed}
 use Rattle.yaml.specs.declared.sink.Refusal.{Refusal}
 use Rattle.yaml.specs.declared.sink.Refusal.TheVariants.{NotAllowed, NoSpace}
-use Rattle.yaml.specs.View.{View, Accepted, Full, Took}
+use Rattle.yaml.specs.View.{View, Full, Took}
 use Rattle.serial.specs.Serialize.{same_bytes}
 use Rattle.serial.proofs.Standing.{bytes_same, bytes_differ}
 use Rattle.runs.specs.Writer.{Due, events}
@@ -80,13 +80,13 @@ module _ {weight : Ev → ℕ} {v : View} {n : ℕ} where
   }
 
   pub cut_before : {xs : List Due} {c : Refused} {v₁ : View} {m : ℕ} (ys : List Due) → Hands weight v n xs (Err c) v₁ m → Hands weight v n (xs ++ ys) (Err c) v₁ m
-  cut_before ys (all_in e b) = let z : ◌≡◌ {A = ℕ} 0 1 = cc in absurd (omega arith)
+  cut_before ys (all_in e b) = cc
   cut_before ys (some_in e b) = some_in e (some_before ys b)
 
   -- a good answer
   pub all_of : {xs : List Due} {u : Unit {0}} {v₁ : View} {m : ℕ} → Hands weight v n xs (Ok u) v₁ m → AllIn weight v n xs v₁ m
   all_of (all_in e b) = b
-  all_of (some_in e b) = let z : ◌≡◌ {A = ℕ} 0 1 = cc in absurd (omega arith)
+  all_of (some_in e b) = cc
 
   -- other names for the same events
   pub hands_as : {xs ys : List Due} {r : Result (Unit {0}) Refused} {v₁ : View} {m : ℕ} → xs ≡ ys → Hands weight v n xs r v₁ m → Hands weight v n ys r v₁ m

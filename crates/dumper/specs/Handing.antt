@@ -1,10 +1,12 @@
 -- How far some events that are due went into a sink, and how they are counted.
-use Rattle.std.specs.Prelude.{◌≡◌, ℕ, ◌+◌, ◌<◌, List, ◌∷◌, ◌++◌, length, Ok, Err, Result}
+use Rattle.std.specs.Prelude.{◌≡◌, ℕ, ◌+◌, ◌<◌, Bool, cond, List, [], ◌∷◌, ◌++◌, length, Ok, Err, Result}
+use Rattle.model.specs.declared.EventKind.{EventKind}
 use Rattle.model.specs.Events.{Ev}
+use Rattle.serial.specs.Serialize.{plain}
 use Rattle.yaml.specs.declared.sink.Refusal.TheVariants.{NoSpace}
 use Rattle.yaml.specs.declared.sink.Sink.{Ghosts}
 use Rattle.yaml.specs.View.{View}
-use Rattle.runs.specs.Writer.{Due, events, total}
+use Rattle.runs.specs.Writer.{Due, due_of, events, total}
 use Rattle.dumper.specs.declared.answer.Why.TheVariants.{Sink}
 use Rattle.dumper.specs.declared.answer.Refused.{Refused}
 use Rattle.dumper.specs.declared.outlet.Outlet.{Outlet}
@@ -35,3 +37,7 @@ pub data Hands (weight : Ev → ℕ) (v : View) (n : ℕ) (ds : List Due) (r : R
 -- the same of an outlet before and after
 abbrev pub Handed : {S : Type 0} {k : Ghosts S} → Outlet S k → List Due → Result (Unit {0}) Refused → Outlet S k → Type 0
 Handed {k = k} o ds r o' = Hands k.weight (k.view o.sink) o.events ds r (k.view o'.sink) o'.events
+
+-- an event of the stream is due where it was not handed on before
+abbrev pub once_due : EventKind → Bool → List Due
+once_due kind done = cond done [] (due_of 0 (plain kind 0) ∷ [])

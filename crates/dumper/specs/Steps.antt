@@ -1,14 +1,10 @@
 -- The steps of a walk, as the step table has them, and the events that they stand for.
-use Rattle.std.specs.Prelude.{◌≡◌, ℕ, ◌≤◌, cond, List, [], ◌∷◌, map, Some, None, Option, ◌==◌}
+use Rattle.std.specs.Prelude.{cond, List, [], ◌∷◌, map, Some, None, Option, ◌==◌}
 use Rattle.model.specs.Events.{Ev}
-use Rattle.model.specs.Graph.{Vertex}
 use Rattle.serial.specs.Walk.{Token, first, again, leave}
-use Rattle.serial.specs.Numbering.{number_of}
 use Rattle.yaml.specs.declared.event.Event.{Event}
 use Rattle.yaml.specs.Shapes.{ev_of}
-use Rattle.walk.specs.declared.entry.Counted.{Counted}
 use Rattle.walk.specs.declared.entry.Step.{Step}
-use Rattle.walk.specs.Entries.{entry_at}
 
 -- the step of an entry
 abbrev pub token_of : Step → Token

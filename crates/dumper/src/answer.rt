@@ -26,7 +26,8 @@ pub enum Why {
     TooFewSteps,
     // 58: this node is met again and has no anchor; it is the first such
     NoAnchor(u32),
-    // 59: the sink did not take an event of this node; 0 stands for the stream and the document, as in what C is told
+    // 59: the sink did not take an event of this node
+    // 0 stands for the stream and the document: the law over whole runs and the record that C is told have that number
     Sink { node: u32, refusal: Refusal },
 }
 

@@ -27,25 +27,15 @@ pub(crate) fn plain(kind: EventKind, flags: u8) -> Event<'static>
     }
 }
 
-// The kind of the event that gives a node.
-fn start_kind(kind: NodeKind) -> EventKind
-    ensures { result ≡ start_kind kind }
+// The kinds of the events that give a node and that end it.
+fn kinds_of(kind: NodeKind) -> (EventKind, EventKind)
+    ensures start { result.0 ≡ start_kind kind }
+    ensures end { result.1 ≡ end_kind kind }
 {
     match kind {
-        NodeKind::Scalar => EventKind::Scalar,
-        NodeKind::Sequence => EventKind::SequenceStart,
-        NodeKind::Mapping => EventKind::MappingStart,
-    }
-}
-
-// The kind of the event that ends a collection.
-fn end_kind(kind: NodeKind) -> EventKind
-    ensures { result ≡ end_kind kind }
-{
-    match kind {
-        NodeKind::Scalar => EventKind::Scalar,
-        NodeKind::Sequence => EventKind::SequenceEnd,
-        NodeKind::Mapping => EventKind::MappingEnd,
+        NodeKind::Scalar => (EventKind::Scalar, EventKind::Scalar),
+        NodeKind::Sequence => (EventKind::SequenceStart, EventKind::SequenceEnd),
+        NodeKind::Mapping => (EventKind::MappingStart, EventKind::MappingEnd),
     }
 }
 
@@ -86,9 +76,10 @@ pub(crate) fn event_of<'e, 'd: 'e>(
     match step.kind() {
         Some(StepKind::First) => {
             let kind = d.kind(step.node)?;
+            let (start, _) = kinds_of(kind);
             let tag = d.tag(step.node)?;
             Some(Event {
-                kind: start_kind(kind),
+                kind: start,
                 style: d.style(step.node)?,
                 flags: flags_of(kind, tag),
                 anchor,
@@ -101,6 +92,9 @@ pub(crate) fn event_of<'e, 'd: 'e>(
             anchor,
             ..plain(EventKind::Alias, 0)
         }),
-        Some(StepKind::Leave) | None => Some(plain(end_kind(d.kind(step.node)?), 0)),
+        Some(StepKind::Leave) | None => {
+            let (_, end) = kinds_of(d.kind(step.node)?);
+            Some(plain(end, 0))
+        }
     }
 }

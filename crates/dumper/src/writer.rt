@@ -7,6 +7,7 @@ use yaml::Sink;
 mod calls;
 mod inner;
 
+// The three flags stay apart, as the law over whole runs has them: each call asks one or two of them, and one enum of four states is no plainer.
 // It is opened once its stream start is taken, closed once its stream end is, and spoilt where a document that began never ended.
 #[derive(Drop)]
 pub struct Writer<S: Sink> {

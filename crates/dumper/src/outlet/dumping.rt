@@ -48,10 +48,7 @@ impl<S: Sink> Outlet<S> {
         );
         self.hand(0, &start)?;
         self.dump_steps(planned)?;
-        let end = plain(
-            EventKind::DocumentEnd,
-            u8::from(planned.d.end_implicit()),
-        );
+        let end = plain(EventKind::DocumentEnd, u8::from(planned.d.end_implicit()));
         self.hand(0, &end)
     }
 }

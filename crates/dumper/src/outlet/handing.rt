@@ -1,13 +1,15 @@
 // Handing one event to a sink.
-ghost use Rattle.std.specs.Prelude.{◌≡◌, true, [], ◌∷◌};
+ghost use Rattle.std.specs.Prelude.{◌≡◌, true, ◌||◌, [], ◌∷◌, is_ok};
 ghost use Rattle.model.specs.Events.{allowed};
+ghost use Rattle.serial.specs.Serialize.{plain as plain_event};
 ghost use Rattle.yaml.specs.Shapes.{ev_of};
 ghost use Rattle.runs.specs.Writer.{due_of};
-ghost use Rattle.dumper.specs.Handing.{Handed};
+ghost use Rattle.dumper.specs.Handing.{once_due, Handed};
 
 use super::Outlet;
 use crate::answer::{Refused, Why};
-use yaml::{Event, Sink};
+use crate::event::plain;
+use yaml::{Event, EventKind, Sink};
 
 impl<S: Sink> Outlet<S> {
     // An outlet to the sink, which was handed nothing yet.
@@ -39,6 +41,19 @@ impl<S: Sink> Outlet<S> {
         ensures sink { self.new.sink ≡ self.old.sink }
     {
         self.events = 0;
+    }
+
+    // Hands on an event of the stream, where it was not before.
+    pub(crate) fn hand_once(&mut self, kind: EventKind, done: &mut bool) -> Result<(), Refused>
+        requires { allowed (plain_event kind 0) ≡ true }
+        ensures handed { Handed self.old (once_due kind done.old) result self.new }
+        ensures done { done.new ≡ (done.old || is_ok result) }
+    {
+        if !*done {
+            self.hand(0, &plain(kind, 0))?;
+            *done = true;
+        }
+        Ok(())
     }
 
     // Hands on an event of a node, and counts it where it is taken.

@@ -7,7 +7,6 @@ ghost use Rattle.dumper.specs.States.{Wrote};
 
 use super::Writer;
 use crate::answer::Refused;
-use crate::event::plain;
 use crate::planned::Planned;
 use yaml::{EventKind, Sink};
 
@@ -16,22 +15,16 @@ impl<S: Sink> Writer<S> {
     pub(crate) fn start(&mut self) -> Result<(), Refused>
         ensures { Wrote self.old (start_due self.old.opened) result self.new }
     {
-        if !self.opened {
-            self.outlet.hand(0, &plain(EventKind::StreamStart, 0))?;
-            self.opened = true;
-        }
-        Ok(())
+        self.outlet
+            .hand_once(EventKind::StreamStart, &mut self.opened)
     }
 
     // Ends the stream where it is not closed.
     pub(crate) fn finish(&mut self) -> Result<(), Refused>
         ensures { Wrote self.old (end_due self.old.closed) result self.new }
     {
-        if !self.closed {
-            self.outlet.hand(0, &plain(EventKind::StreamEnd, 0))?;
-            self.closed = true;
-        }
-        Ok(())
+        self.outlet
+            .hand_once(EventKind::StreamEnd, &mut self.closed)
     }
 
     // Starts and ends the stream, as far as need be.

@@ -1,13 +1,11 @@
-use Rattle.std.proofs.Common.{cond, [], ◌∷◌, ◌++◌, ap, ◌∙◌, arith}
+use Rattle.std.proofs.Common.{cond, [], ◌∷◌, ◌++◌}
 use Rattle.std.proofs.lemmas.Result.{err_from_is_err_and}
-use Rattle.std.proofs.lemmas.Bool.{and_parts}
 use Rattle.model.specs.declared.EventKind.TheVariants.{DocumentStart, DocumentEnd}
 use Rattle.serial.specs.Numbering.{anchor_of}
-use Rattle.serial.specs.Serialize.{plain, walk_events}
+use Rattle.serial.specs.Serialize.{plain}
 use Rattle.document.specs.Books.{book_of}
 use Rattle.runs.specs.Writer.{due_of, walk_dues}
 use Rattle.dumper.specs.Steps.{tokens_of}
-use Rattle.runs.proofs.Pieces.{front_allowed}
 use Rattle.dumper.proofs.Eventful.{bound_told}
 use Rattle.dumper.proofs.Handed.{all_of, hands_then, cut_before, hands_as, hands_left}
 use Rattle.dumper.proofs.outlet.Outlet.dump_document.Goals as goal

@@ -1,11 +1,9 @@
-use Rattle.std.proofs.Common.{◌+◌, drop, refl, ap, arith}
-use Rattle.std.proofs.lemmas.List.{take_all}
+use Rattle.std.proofs.Common.{◌+◌, drop, arith}
 use Rattle.std.proofs.lemmas.Result.{err_from_is_err_and}
 use Rattle.serial.specs.Numbering.{anchor_of}
 use Rattle.document.specs.Books.{book_of}
 use Rattle.runs.specs.Writer.{walk_dues}
 use Rattle.walk.specs.Entries.{empty_step}
-use Rattle.dumper.specs.Handing.{all_in}
 use Rattle.dumper.specs.Steps.{tokens_of}
 use Rattle.dumper.proofs.Eventful.{walk_allowed, step_allowed, dues_at, dues_more}
 use Rattle.dumper.proofs.Handed.{all_then, all_of, all_as, hands_then, cut_before, hands_as, hands_left}
