@@ -19,19 +19,10 @@ starts_append (x ∷ xs) ys = and_from (x == x) _ (eq-eqb x x refl) (starts_appe
 
 pub starts_take : (xs ys : List ℕ) → starts_with xs ys ≡ true → take (length xs) ys ≡ xs
 starts_take [] ys h = refl
-starts_take (x ∷ xs) [] h = let z : ◌≡◌ {A = ℕ} 0 1 = cc in absurd (omega (arith, z))
+starts_take (x ∷ xs) [] h = cc
 starts_take (x ∷ xs) (y ∷ ys) h =
     let p = and_parts (x == y) (starts_with xs ys) h in
     ap₂ ◌∷◌ (sym (eqb-true x y p.0)) (starts_take xs ys p.1)
-
-and_assoc : (a b c : Bool) → (a && (b && c)) ≡ ((a && b) && c)
-and_assoc true b c = refl
-and_assoc false b c = refl
-
-pub starts_both : (xs ys bs : List ℕ) → starts_with (xs ++ ys) bs ≡ (starts_with xs bs && starts_with ys (drop (length xs) bs))
-starts_both [] ys bs = refl
-starts_both (x ∷ xs) ys [] = refl
-starts_both (x ∷ xs) ys (b ∷ bs) = ap (λ t. (x == b) && t) (starts_both xs ys bs) ∙ and_assoc (x == b) (starts_with xs bs) _
 
 -- what an allowed event has
 
@@ -246,15 +237,15 @@ only_line e g n bs h = ⊎_elim line other (cases_Bool (is_line_of g bs))
         (ap allowed (sym same) ∙ p.0, sym long ∙ ap (λ x. length (line_of x)) same, ap (λ m. take m bs) (sym long) ∙ (starts_take (line_of g) bs p.1 ∙ ap line_of same))
 
     other : is_line_of g bs ≡ false → (allowed e ≡ true) × (n ≡ length (line_of e)) × (take n bs ≡ line_of e)
-    other i = let s : fault NotALine ≡ event e n = sym (front_fault g bs i) ∙ h in let z : ◌≡◌ {A = ℕ} 0 1 = cc in absurd (omega (arith, z))
+    other i = let s : fault NotALine ≡ event e n = sym (front_fault g bs i) ∙ h in cc
 
 only_lines : (e : Ev) (n : ℕ) (bs : List ℕ) → line_front bs ≡ event e n → (allowed e ≡ true) × (n ≡ length (line_of e)) × (take n bs ≡ line_of e)
-only_lines e n [] h = let s : nothing ≡ event e n = sym front_none ∙ h in let z : ◌≡◌ {A = ℕ} 0 1 = cc in absurd (omega (arith, z))
+only_lines e n [] h = let s : nothing ≡ event e n = sym front_none ∙ h in cc
 only_lines e n (b ∷ bs) h = only_line e (guess (b ∷ bs)) n (b ∷ bs) (sym (front_some (b ∷ bs) (omega arith)) ∙ h)
 
 nothing_empty : (bs : List ℕ) → line_front bs ≡ nothing → bs ≡ []
 nothing_empty [] h = refl
-nothing_empty (b ∷ bs) h = ⊎_elim (λ i. let s : event g (length (line_of g)) ≡ nothing = sym (front_line g (b ∷ bs) i) ∙ f in let z : ◌≡◌ {A = ℕ} 0 1 = cc in absurd (omega (arith, z))) (λ i. let s : fault NotALine ≡ nothing = sym (front_fault g (b ∷ bs) i) ∙ f in let z : ◌≡◌ {A = ℕ} 0 1 = cc in absurd (omega (arith, z))) (cases_Bool (is_line_of g (b ∷ bs)))
+nothing_empty (b ∷ bs) h = ⊎_elim (λ i. let s : event g (length (line_of g)) ≡ nothing = sym (front_line g (b ∷ bs) i) ∙ f in cc) (λ i. let s : fault NotALine ≡ nothing = sym (front_fault g (b ∷ bs) i) ∙ f in cc) (cases_Bool (is_line_of g (b ∷ bs)))
   where
     g : Ev
     g = guess (b ∷ bs)
@@ -269,8 +260,8 @@ lines_format = record { reads_back = reads_line; only_written = only_lines; not_
 
 pub refuses : Refuses
 refuses = record {
-  some_bytes = λ bs h e. let s : nothing ≡ fault NotALine = sym front_none ∙ (ap line_front (sym e) ∙ h) in let z : ◌≡◌ {A = ℕ} 0 1 = cc in omega (arith, z);
-  no_line = λ bs h e more a is. let s : event e (length (line_of e)) ≡ fault NotALine = sym (reads_line e more a) ∙ (ap line_front (sym is) ∙ h) in let z : ◌≡◌ {A = ℕ} 0 1 = cc in omega (arith, z);
+  some_bytes = λ bs h e. let s : nothing ≡ fault NotALine = sym front_none ∙ (ap line_front (sym e) ∙ h) in cc;
+  no_line = λ bs h e more a is. let s : event e (length (line_of e)) ≡ fault NotALine = sym (reads_line e more a) ∙ (ap line_front (sym is) ∙ h) in cc;
   only_then = no_other;
 }
   where

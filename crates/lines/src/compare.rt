@@ -31,6 +31,7 @@ impl<'a> Pen for Compare<'a> {
 }
 
 // The size of an event's line, if the bytes begin with it.
+#[tactic(auto, using(crate::specs::Lawful::short))]
 pub fn line_within(e: &Event<'_>, bytes: &[u8]) -> Option<usize>
     requires { allowed (ev_of e.now) ≡ true }
     ensures { LineWithin (ev_of e.now) bytes.now result }

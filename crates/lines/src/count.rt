@@ -30,6 +30,7 @@ impl Pen for Count {
 }
 
 // The size of an event's line; none for an event that is not allowed.
+#[tactic(auto, using(crate::specs::Lawful::short))]
 pub fn line_size(e: &Event<'_>) -> Option<u16>
     ensures { result ≡ size_of weight_of (ev_of e.now) }
 {

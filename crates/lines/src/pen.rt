@@ -104,7 +104,7 @@ fn write_head<P: Pen>(pen: &mut P, e: &Event<'_>)
 }
 
 // Writes the line of an event.
-#[tactic(auto, using(crate::specs::Lawful::length_line))]
+#[tactic(auto, using(crate::specs::Lawful::length_line, crate::specs::Lawful::small_digits))]
 pub fn write_line<P: Pen>(pen: &mut P, e: &Event<'_>)
     requires allowed { allowed (ev_of e.now) ≡ true }
     requires room { length (line_of (ev_of e.now)) ≤ P.Pen.room pen.old }

@@ -2,12 +2,8 @@ use Rattle.std.proofs.Common.{length, ap, arith}
 use Rattle.std.proofs.lemmas.List.{length-append}
 use Rattle.yaml.specs.Shapes.{ev_of}
 use Rattle.lines.specs.Line.{line_of}
-use Rattle.lines.specs.Lawful.{short}
 use Rattle.lines.proofs.Comparing.{begins, other}
 use Rattle.lines.proofs.compare.line_within.Goals as goal
-
-pub write_line-requires-clause-room : goal.write_line-requires-clause-room
-write_line-requires-clause-room c = omega (arith, short (ev_of c.args.e.now) c.requires)
 
 pub returns-in_err-left : goal.returns-in_err-left
 returns-in_err-left c = let t = rw c.in_err-left.was at c.write_line.ensures in rw c.from_residual.ensures (other (line_of (ev_of c.args.e.now)) c.args.bytes.now t.wrote)

@@ -1,11 +1,7 @@
 use Rattle.std.proofs.Common.{subst}
 use Rattle.yaml.specs.Shapes.{ev_of}
-use Rattle.lines.specs.Lawful.{small_digits}
 use Rattle.lines.proofs.Escaping.{line_parts}
 use Rattle.lines.proofs.pen.write_line.Goals as goal
-
-pub write_head-requires-clause-digits : goal.write_head-requires-clause-digits
-write_head-requires-clause-digits g c = small_digits (ev_of c.args.e.now) c.requires.allowed
 
 pub returns-clause-wrote : goal.returns-clause-wrote
 returns-clause-wrote g c =
