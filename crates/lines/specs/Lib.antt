@@ -6,5 +6,6 @@ pub mod Parts
 pub mod Telling
 pub mod Ends
 pub mod Reads
+pub mod Stores
 pub mod Writes
 pub mod Samples

@@ -22,10 +22,7 @@ fn skip(bytes: &[u8], n: usize) -> &[u8]
 }
 
 // Reads an escaped text, up to the first byte below 33 or the end, and answers what follows it; there is no line where it does not fit.
-fn read_text<'a, const N: usize>(
-    bytes: &'a [u8],
-    text: &mut Buffer<N>,
-) -> Result<&'a [u8], Cause>
+fn read_text<'a, const N: usize>(bytes: &'a [u8], text: &mut Buffer<N>) -> Result<&'a [u8], Cause>
     requires { text.old ≡ [] }
     ensures { ReadPart N (untext 0 bytes.now) (past 0 bytes.now) text.new result }
 {
@@ -33,10 +30,7 @@ fn read_text<'a, const N: usize>(
     'bytes: loop {
         let (byte, after) = match byte_at(rest, 0) {
             0..=b' ' => return Ok(rest),
-            b'\\' => (
-                unescape(byte_at(rest, 1), byte_at(rest, 2)),
-                skip(rest, 3),
-            ),
+            b'\\' => (unescape(byte_at(rest, 1), byte_at(rest, 2)), skip(rest, 3)),
             plain => (plain, skip(rest, 1)),
         };
         if text.is_full() {

@@ -1,5 +1,4 @@
 use Rattle.std.proofs.Common.{◌≡◌, ◌<◌, get_or, drop, refl, ap, ◌∙◌, arith}
-use Rattle.std.proofs.lemmas.Bool.{eqb-true}
 use Rattle.lines.specs.Line.{unescaped}
 use Rattle.lines.specs.Texts.{untext_escaped, untext_plain, past_escaped, past_plain}
 use Rattle.lines.proofs.Unescaping.{one_more, too_long, all_read}

@@ -1,10 +1,8 @@
-use Rattle.std.proofs.Common.{◌≡◌, ap, ◌∙◌, sym}
+use Rattle.std.proofs.Common.{ap, ◌∙◌, sym}
 use Rattle.std.specs.Option.{option_map}
-use Rattle.model.specs.Reading.{nothing, event}
 use Rattle.yaml.specs.Shapes.{head_with}
 use Rattle.yaml.proofs.Gives.{gave_event, gave_nothing, gave_fault}
 use Rattle.lines.specs.Lawful.{lines_format}
-use Rattle.lines.specs.Line.{line_front}
 use Rattle.lines.specs.Telling.{ev_told}
 use Rattle.lines.proofs.reader.LineReaderSource.next_event.Goals as goal
 

@@ -5,7 +5,7 @@ use Rattle.lines.proofs.writer.LineWriter.new.Goals as goal
 
 pub invariant_of-result : goal.invariant_of-result
 unfolding reading
-invariant_of-result c = record { behind = omega arith; inside = omega arith; whole = refl }
+invariant_of-result c = record { inside = omega arith; whole = refl }
 
 pub returns : goal.returns
 unfolding reading

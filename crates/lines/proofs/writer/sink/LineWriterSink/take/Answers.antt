@@ -6,31 +6,26 @@ use Rattle.lines.specs.Writes.{held}
 use Rattle.lines.specs.Lawful.{lines_format}
 use Rattle.lines.proofs.writer.sink.LineWriterSink.take.Goals as goal
 
-pub invariant_of-self-2 : goal.invariant_of-self-2
-invariant_of-self-2 c =
+pub invariant_of-self : goal.invariant_of-self
+invariant_of-self c =
     let w = c.args.self.now in
-    let after = c.write_line.new.pen in
     let e = ev_of c.args.e.now in
-    let fits = c.in_ok-fitting.ensures in
-    let size = sized weight_of e c.in_ok-fitting.field-0 (sym fits.0 ∙ c.line_size.ensures) in
-    let stored = c.write_line.ensures.wrote in
+    let size = sized weight_of e c.in_ok-fitting.field-0 (sym c.in_ok-fitting.ensures.0 ∙ c.size.ensures) in
+    let out = c.store_line-self.new.out in
     record {
-      behind = omega arith;
-      inside = after.inside;
-      whole = (taken_more lines_format (held w) (take after.at after.out.now) e w.whole size.0 stored.front).1;
+      inside = omega (arith, size.1, w.inside, c.in_ok-fitting.ensures.1, c.store_line-self.auto.out);
+      whole = (taken_more lines_format (held w) (take c.store_line-self.result out) e w.whole size.0 c.store_line-self.ensures.front).1;
     }
 
 pub returns : goal.returns
 returns c =
     let w = c.args.self.now in
-    let after = c.write_line.new.pen in
     let e = ev_of c.args.e.now in
-    let fits = c.in_ok-fitting.ensures in
-    let size = sized weight_of e c.in_ok-fitting.field-0 (sym fits.0 ∙ c.line_size.ensures) in
-    let stored = c.write_line.ensures.wrote in
+    let size = sized weight_of e c.in_ok-fitting.field-0 (sym c.in_ok-fitting.ensures.0 ∙ c.size.ensures) in
+    let out = c.store_line-self.new.out in
     record {
       was_allowed = size.0;
-      fitted = omega (arith, size.1, c.space.ensures);
-      appended = (taken_more lines_format (held w) (take after.at after.out.now) e w.whole size.0 stored.front).0;
-      fallen = omega (arith, after.inside, stored.place, stored.length_same);
+      fitted = omega (arith, size.1);
+      appended = (taken_more lines_format (held w) (take c.store_line-self.result out) e w.whole size.0 c.store_line-self.ensures.front).0;
+      fallen = omega (arith, size.1, w.inside, c.store_line-self.auto.out);
     }
