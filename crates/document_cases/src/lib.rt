@@ -218,8 +218,8 @@ mod stacks {
         let mut place = 9;
         assert!(rt; !stack.pop(&mut place));
         assert_eq!(rt; place, 9);
-        assert!(rt; stack.push(1) & stack.push(2));
-        assert!(rt; !stack.push(3));
+        assert!(rt; stack.push(1).is_ok() & stack.push(2).is_ok());
+        assert!(rt; stack.push(3).is_err());
         assert_eq!(rt; stack.get(1), Some(2));
         assert!(rt; stack.pop(&mut place));
         assert_eq!(rt; place, 2);

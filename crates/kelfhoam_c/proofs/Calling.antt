@@ -1,18 +1,12 @@
 -- Calls made one after the other.
-use Rattle.std.proofs.Common.{◌≡◌, ℕ, ◌+◌, ◌<◌, false, List, [], length, get_or, take, drop, set, sym, refl, ap, ◌∙◌, subst, arith}
+use Rattle.std.proofs.Common.{◌≡◌, ℕ, ◌+◌, ◌<◌, false, List, [], length, get_or, take, drop, set, sym, refl, ap, ◌∙◌, arith}
 use Rattle.std.proofs.lemmas.List.{take_more, take_more_set, drop-drop, drop-set-lt}
 use Rattle.model.specs.Events.{Ev}
-use Rattle.document.specs.declared.handed.Handed.{Handed as HandedIn}
 use Rattle.runs.specs.Writer.{State}
 use Rattle.kelfhoam_c.specs.declared.told.CallTold.{CallTold}
-use Rattle.kelfhoam_c.specs.Writing.{Lent, lent_by, Turned, Chain, none, more, fresh_with}
+use Rattle.kelfhoam_c.specs.Writing.{Lent, Turned, Chain, none, more, fresh_with}
 
 module _ (weight : Ev → ℕ) where
-  -- with tables that are as long
-  pub turned_as : (h : HandedIn) (a b x y : ℕ) (c : ℕ) (before : State) (told : CallTold) (after : State) → x ≡ a → y ≡ b
-      → Turned weight (lent_by h x y) c before told after → Turned weight (lent_by h a b) c before told after
-  turned_as h a b x y c before told after p q t = subst (λ d. Turned weight d c before told after) (λ i. lent_by h (p i) (q i)) t
-
   module _ (d : Lent) (start : State) (cs : List ℕ) where
     pub chain_none : (ts : List CallTold) → Chain weight d start (take 0 cs) (take 0 ts) start
     chain_none ts = none refl refl refl

@@ -3,7 +3,6 @@ use Rattle.std.specs.Prelude.{◌≡◌, ℕ, ◌-◌, min, Bool, false, ◌≢�
 use Rattle.model.specs.Events.{Ev}
 use Rattle.model.specs.Graph.{Book}
 use Rattle.packed.specs.Packed.{size_of}
-use Rattle.document.specs.declared.handed.Handed.{Handed as HandedIn}
 use Rattle.document.specs.declared.refusal.Refusal.{Refusal as NoDocument}
 use Rattle.document.specs.Check.{Handed, handed_of, Fit, Refused}
 use Rattle.document.specs.Books.{book_on}
@@ -12,6 +11,7 @@ use Rattle.dumper.specs.declared.answer.Refused.{Refused as DumpRefused}
 use Rattle.dumper.specs.Answers.{answer_of}
 use Rattle.dumper.specs.Calls.{handed}
 use Rattle.kelfhoam_c.specs.declared.told.CallTold.{CallTold}
+use Rattle.kelfhoam_c.specs.declared.write.Lent.{Lent as LentIn}
 use Rattle.kelfhoam_c.specs.Told.{accepted_told, called_told, no_document_told}
 
 -- what the calls are lent: the tables of a document with its flags, and the lengths of the counting table and of the step table
@@ -25,8 +25,8 @@ pub record Lent : Type 0 where
 abbrev pub lent : Handed → Bool → Bool → ℕ → ℕ → Lent
 lent h s e counts steps = record { tables = h; start_implicit = s; end_implicit = e; counts = counts; steps = steps }
 
-abbrev pub lent_by : HandedIn → ℕ → ℕ → Lent
-lent_by h counts steps = lent (handed_of h) h.start_implicit h.end_implicit counts steps
+abbrev pub lent_of : LentIn → Lent
+lent_of l = lent (handed_of l.handed) l.handed.start_implicit l.handed.end_implicit (length l.counting.now) (length l.steps.now)
 
 -- the document without nodes
 abbrev pub book_of_nothing : Book

@@ -20,10 +20,9 @@ fn load_after<S: Source>(
     ensures { result ≡ (after_documents skip (lengths_of tables.old) loader.old.phase (S.Source.flow loader.old.source)).answer }
 {
     for passed in 0..skip {
-        match loader.load(tables) {
-            Ok(Some(_)) => {}
-            Ok(None) => return Ok(None),
-            Err(refusal) => return Err(refusal),
+        let loaded = loader.load(tables)?;
+        if loaded.is_none() {
+            return Ok(None);
         }
     }
     loader.load(tables)

@@ -1,8 +1,5 @@
 // Redumping, for C.
-use crate::told::{
-    CallTold, LoadTold, RedumpTold, accepted, no_load, tell_call_refused, tell_no_document,
-    tell_refused,
-};
+use crate::told::{CallTold, LoadTold, RedumpTold};
 use composer::Tables;
 use document::Node;
 use loader::Anchor;
@@ -10,27 +7,15 @@ use packed::{PackedReader, PackedWriter};
 use redump::{Refusal, Totals, redump};
 use walk::{Counted, Step};
 
-// The number of an outcome: 0 where all was done, else the refusal's.
-fn outcome_number(outcome: Result<(), Refusal>, write: CallTold) -> u32 {
-    match outcome {
-        Ok(()) => 0,
-        Err(Refusal::Load(refusal)) => refusal.number() as u32,
-        Err(Refusal::Stand(_) | Refusal::Dump(_)) => (write.refusal & 0xff) as u32,
-    }
-}
-
-fn outcome_load(outcome: Result<(), Refusal>) -> LoadTold {
-    match outcome {
-        Err(Refusal::Load(refusal)) => tell_refused(refusal),
-        _ => no_load(),
-    }
-}
-
-fn outcome_write(outcome: Result<(), Refusal>) -> CallTold {
-    match outcome {
-        Err(Refusal::Stand(refusal)) => tell_no_document(refusal),
-        Err(Refusal::Dump(refused)) => tell_call_refused(refused),
-        _ => accepted(0),
+// What is told of the end: the refusal's number, or 0 where all was done, and what a refused load or a refused call of the writer told.
+fn tell_end(end: Result<(), Refusal>) -> (u32, LoadTold, CallTold) {
+    let load = LoadTold::default();
+    let write = CallTold::default();
+    match end {
+        Ok(()) => (0, load, write),
+        Err(Refusal::Load(refusal)) => (refusal.number().into(), refusal.into(), write),
+        Err(Refusal::Stand(refusal)) => { (refusal.question.number().into(), load, refusal.into()) }
+        Err(Refusal::Dump(refused)) => (refused.why.number().into(), load, refused.into()),
     }
 }
 
@@ -51,7 +36,7 @@ pub extern "C" fn kelfhoam_redump(
     let mut tables = Tables::new(nodes, links, text, anchors, waiting);
     let mut packed = PackedWriter::new(out);
     let mut totals = Totals::default();
-    let outcome = redump(
+    let end = redump(
         PackedReader::new(input),
         &mut packed,
         &mut tables,
@@ -59,15 +44,15 @@ pub extern "C" fn kelfhoam_redump(
         steps,
         &mut totals,
     );
-    let write = outcome_write(outcome);
+    let (number, load, write) = tell_end(end);
     *told = RedumpTold {
         documents: totals.documents as u64,
         nodes: totals.nodes as u64,
         links: totals.links as u64,
         events: totals.events as u64,
         bytes: packed.finish().len() as u64,
-        load: outcome_load(outcome),
+        load,
         write,
     };
-    outcome_number(outcome, write)
+    number
 }

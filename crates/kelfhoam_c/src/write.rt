@@ -2,58 +2,52 @@
 ghost use Rattle.std.specs.Prelude.{◌≡◌, not, length, nat_eq};
 ghost use Rattle.document.specs.Check.{handed};
 ghost use Rattle.dumper.specs.States.{state_of};
-ghost use Rattle.kelfhoam_c.specs.Writing.{Turned, lent, lent_by, MadeCalls, Wrote};
+ghost use Rattle.kelfhoam_c.specs.Writing.{Turned, lent, lent_of, MadeCalls, Wrote};
 
-use crate::told::{CallTold, accepted, tell_call, tell_no_document};
-use document::limits::space;
+use crate::told::{CallTold, accepted, tell_call};
 use document::{Document, Handed, Node};
 use dumper::Writer;
 use packed::PackedWriter;
 use walk::{Counted, Step};
 use yaml::Sink;
 
+// What each call is lent: what a Document may stand on, and the two tables of its walk.
+#[derive(Drop)]
+struct Lent<'a> {
+    handed: Handed<'a>,
+    counting: &'a mut [Counted],
+    steps: &'a mut [Step],
+}
+
 // One call of a writer, by its letter: `o` opens, `c` closes, `e` dumps an empty Document, `d` the Document on what was handed in, where one stands on it.
-fn call<'x, K: Sink>(
-    writer: &mut Writer<K>,
-    letter: u8,
-    handed: Handed<'x>,
-    counting: &mut [Counted],
-    steps: &mut [Step],
-) -> CallTold
-    ensures { Turned K.Sink.weight (lent_by handed.entry (length counting.old) (length steps.old)) letter (state_of K.Sink.view writer.old) result (state_of K.Sink.view writer.new) }
+fn call<K: Sink>(writer: &mut Writer<K>, letter: u8, lent: &mut Lent<'_>) -> CallTold
+    ensures turned { Turned K.Sink.weight (lent_of lent.old) letter (state_of K.Sink.view writer.old) result (state_of K.Sink.view writer.new) }
+    ensures same { lent_of lent.new ≡ lent_of lent.old }
 {
-    if letter == b'o' {
-        return tell_call(writer.open());
-    }
-    if letter == b'c' {
-        return tell_call(writer.close());
-    }
-    if letter == b'e' {
-        return tell_call(writer.dump(Document::empty(), counting, steps));
-    }
-    if letter != b'd' {
-        return accepted(0);
-    }
-    match Document::stand(handed) {
-        Ok(d) => tell_call(writer.dump(d, counting, steps)),
-        Err(refusal) => tell_no_document(refusal),
+    match letter {
+        b'o' => tell_call(writer.open()),
+        b'c' => tell_call(writer.close()),
+        b'e' => tell_call(writer.dump(Document::empty(), lent.counting, lent.steps)),
+        b'd' => match Document::stand(lent.handed) {
+            Ok(d) => tell_call(writer.dump(d, lent.counting, lent.steps)),
+            Err(refusal) => refusal.into(),
+        },
+        _ => accepted(0),
     }
 }
 
 // Several calls, one after the other, as many as have an entry to tell in.
-fn call_all<'x, K: Sink>(
+fn call_all<K: Sink>(
     writer: &mut Writer<K>,
     calls: &[u8],
-    handed: Handed<'x>,
-    counting: &mut [Counted],
-    steps: &mut [Step],
+    lent: &mut Lent<'_>,
     told: &mut [CallTold],
 )
-    ensures { MadeCalls K.Sink.weight (lent_by handed.entry (length counting.old) (length steps.old)) calls.now (state_of K.Sink.view writer.old) (state_of K.Sink.view writer.new) told.old told.new }
+    ensures { MadeCalls K.Sink.weight (lent_of lent.old) calls.now (state_of K.Sink.view writer.old) (state_of K.Sink.view writer.new) told.old told.new }
 {
-    let made = space(calls.len(), told.len());
-    for i in 0..made {
-        told[i] = call(writer, calls[i], handed, counting, steps);
+    let made = calls.len().min(told.len());
+    for (i, &letter) in calls[..made].iter().enumerate() {
+        told[i] = call(writer, letter, lent);
     }
 }
 
@@ -85,6 +79,11 @@ pub extern "C" fn kelfhoam_write<'x>(
         start_implicit: start_implicit != 0,
         end_implicit: end_implicit != 0,
     };
-    call_all(&mut writer, calls, handed, counting, steps, told);
+    let mut lent = Lent {
+        handed,
+        counting,
+        steps,
+    };
+    call_all(&mut writer, calls, &mut lent, told);
     room.saturating_sub(writer.space()) as u64
 }

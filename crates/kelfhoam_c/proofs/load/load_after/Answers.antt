@@ -1,18 +1,20 @@
-use Rattle.std.proofs.Common.{◌≡◌, suc, ◌+◌, ◌-◌, Ok, sym, ap, ◌∙◌, arith}
+use Rattle.std.proofs.Common.{◌≡◌, suc, ◌+◌, ◌-◌, Err, sym, ap, refl, ◌∙◌, arith}
+use Rattle.std.proofs.lemmas.Result.{err_from_is_err_and}
 use Rattle.composer.specs.Holding.{Base, lengths_of}
 use Rattle.kelfhoam_c.specs.Loading.{after_documents}
-use Rattle.kelfhoam_c.proofs.Passing.{passed_over, ended_stands, refused_stands, none_left}
+use Rattle.kelfhoam_c.proofs.Passing.{passed_over, stands, ended, none_left}
 use Rattle.kelfhoam_c.proofs.load.load_after.Goals as goal
 
-pub returns-in-Ok-None : goal.returns-in-Ok-None
-returns-in-Ok-None g c =
-    let is = c.in-Ok-None.is ∙ ap Ok c.in-Ok-None.field-0-is in
-    ended_stands (lengths_of c.loop-passed.tables) c.loop-passed.loader.phase (g.S.Source.flow c.loop-passed.loader.source) (c.args.skip - c.loop-passed.passed) (sym is ∙ c.load.ensures.answered)
-    ∙ ap (λ o. o.answer) c.loop-passed.invariant.0
+pub returns-in_err-loaded : goal.returns-in_err-loaded
+returns-in_err-loaded g c =
+    let p = err_from_is_err_and c.from_residual.result c.from_residual.ensures.1 in
+    rw (p.1, p.2)
+    (stands (lengths_of c.loop-passed.tables) c.loop-passed.loader.phase (g.S.Source.flow c.loop-passed.loader.source) (c.args.skip - c.loop-passed.passed) (Err c.in_err-loaded.field-0.0) (λ o next. refl) (sym c.in_err-loaded.was ∙ c.load.ensures.answered)
+    ∙ ap (λ o. o.answer) c.loop-passed.invariant.0)
 
-pub returns-in-Err : goal.returns-in-Err
-returns-in-Err g c =
-    refused_stands (lengths_of c.loop-passed.tables) c.loop-passed.loader.phase (g.S.Source.flow c.loop-passed.loader.source) (c.args.skip - c.loop-passed.passed) c.in-Err.refusal c.in-Err.ensures.answered
+pub returns-then-is_none : goal.returns-then-is_none
+returns-then-is_none g c =
+    ended (lengths_of c.loop-passed.tables) c.loop-passed.loader.phase (g.S.Source.flow c.loop-passed.loader.source) (c.args.skip - c.loop-passed.passed) c.in_ok-loaded.loaded c.if-is_none.ensures (sym c.in_ok-loaded.was ∙ c.load.ensures.answered)
     ∙ ap (λ o. o.answer) c.loop-passed.invariant.0
 
 pub loop-passed-preserved : goal.loop-passed-preserved
@@ -20,17 +22,14 @@ loop-passed-preserved g c =
     let l = lengths_of c.loop-passed.tables in
     let phase = c.loop-passed.loader.phase in
     let f = g.S.Source.flow c.loop-passed.loader.source in
-    let phase' = c.load.new.self.phase in
-    let f' = g.S.Source.flow c.load.new.self.source in
     let n = c.args.skip - (c.loop-passed.passed + 1) in
     let one : suc n ≡ c.args.skip - c.loop-passed.passed = omega arith in
-    let is = c.in-Ok-Some.is ∙ ap Ok c.in-Ok-Some.field-0-is in
-    let loaded = c.load.ensures in
-    let long = ap (λ (b : Base). b.lengths) loaded.base in (
-      ap (λ k. after_documents n k phase' f') long ∙ passed_over l phase f n _ phase' f' (sym is ∙ loaded.answered) loaded.next_phase loaded.left
-          ∙ ap (λ m. after_documents m l phase f) one ∙ c.loop-passed.invariant.0,
-      long ∙ c.loop-passed.invariant.1,
-    )
+    let load = c.load.ensures in
+    let long = ap (λ (b : Base). b.lengths) load.base in
+    let same = ap (λ k. after_documents n k c.load.new.self.phase (g.S.Source.flow c.load.new.self.source)) long in
+    let over = passed_over l phase f n c.in_ok-loaded.loaded _ _ c.if-is_none.ensures (sym c.in_ok-loaded.was ∙ load.answered) load.next_phase load.left in
+    let on = ap (λ m. after_documents m l phase f) one in
+    (same ∙ over ∙ on ∙ c.loop-passed.invariant.0, long ∙ c.loop-passed.invariant.1)
 
 pub returns : goal.returns
 returns g c =

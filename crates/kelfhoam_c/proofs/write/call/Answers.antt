@@ -7,24 +7,24 @@ use Rattle.kelfhoam_c.specs.Writing.{opens, closes, dumps_nothing, dumps, no_doc
 use Rattle.kelfhoam_c.proofs.Bare.{bare_book}
 use Rattle.kelfhoam_c.proofs.write.call.Goals as goal
 
-pub returns-then-letter-eq111 : goal.returns-then-letter-eq111
-returns-then-letter-eq111 g c = opens c.open.result c.if-letter-eq111.true c.tell_call.ensures c.open.ensures.called
+pub returns-in-111-clause-turned : goal.returns-in-111-clause-turned
+returns-in-111-clause-turned g c = opens c.open.result c.in-111.is c.tell_call.ensures c.open.ensures.called
 
-pub returns-then-letter-eq99 : goal.returns-then-letter-eq99
-returns-then-letter-eq99 g c = closes c.close.result c.if-letter-eq99.true c.tell_call-then-letter-eq99.ensures c.close.ensures.called
+pub returns-in-99-clause-turned : goal.returns-in-99-clause-turned
+returns-in-99-clause-turned g c = closes c.close.result c.in-99.is c.tell_call-in-99.ensures c.close.ensures.called
 
-pub returns-then-letter-eq101 : goal.returns-then-letter-eq101
-returns-then-letter-eq101 g c =
-    dumps_nothing c.dump.result c.if-letter-eq101.true c.tell_call-then-letter-eq101.ensures
-    (subst (λ b. Called g.K.Sink.weight (dumping (handed b (length c.args.counting.now) (length c.args.steps.now))) (state_of g.K.Sink.view c.args.writer.now) (answer_of c.dump.result) (state_of g.K.Sink.view c.dump.new.self))
+pub returns-in-101-clause-turned : goal.returns-in-101-clause-turned
+returns-in-101-clause-turned g c =
+    dumps_nothing c.dump.result c.in-101.is c.tell_call-in-101.ensures
+    (subst (λ b. Called g.K.Sink.weight (dumping (handed b (length c.args.lent.now.counting.now) (length c.args.lent.now.steps.now))) (state_of g.K.Sink.view c.args.writer.now) (answer_of c.dump.result) (state_of g.K.Sink.view c.dump.new.self))
     (bare_book c.empty.result c.empty.ensures) c.dump.ensures.called)
 
-pub returns-in-Err : goal.returns-in-Err
-returns-in-Err g c = no_document c.in-Err.refusal c.if-letter-ne100.false c.in-Err.ensures.stood c.tell_no_document.ensures refl
-
-pub returns-in-Ok : goal.returns-in-Ok
-returns-in-Ok g c =
+pub returns-in-Ok-clause-turned : goal.returns-in-Ok-clause-turned
+returns-in-Ok-clause-turned g c =
     let stood = c.in-Ok.ensures.stood in
-    dumps c.dump-in-Ok.result c.if-letter-ne100.false stood.fit c.tell_call-in-Ok.ensures
-    (subst (λ b. Called g.K.Sink.weight (dumping (handed b (length c.args.counting.now) (length c.args.steps.now))) (state_of g.K.Sink.view c.args.writer.now) (answer_of c.dump-in-Ok.result) (state_of g.K.Sink.view c.dump-in-Ok.new.self))
+    dumps c.dump-in-Ok.result c.in-100.is stood.fit c.tell_call-in-Ok.ensures
+    (subst (λ b. Called g.K.Sink.weight (dumping (handed b (length c.args.lent.now.counting.now) (length c.args.lent.now.steps.now))) (state_of g.K.Sink.view c.args.writer.now) (answer_of c.dump-in-Ok.result) (state_of g.K.Sink.view c.dump-in-Ok.new.self))
     stood.book c.dump-in-Ok.ensures.called)
+
+pub returns-in-Err-clause-turned : goal.returns-in-Err-clause-turned
+returns-in-Err-clause-turned g c = no_document c.in-Err.refusal c.in-100.is c.in-Err.ensures.stood c.into.ensures refl
