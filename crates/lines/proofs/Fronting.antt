@@ -18,8 +18,8 @@ front_by bs e l g = front_some bs l ∙ ap (λ x. front_for x bs) (sym g)
 pub no_line : (bs : List ℕ) → 1 ≤ length bs → is_line_of (guess bs) bs ≡ false → fault NotALine ≡ line_front bs
 no_line bs l h = sym (front_by bs (guess bs) l refl ∙ cond-false (is_line_of (guess bs) bs) _ _ h)
 
-pub a_line : (bs : List ℕ) (e : Ev) (n : ℕ) → 1 ≤ length bs → e ≡ guess bs → allowed e ≡ true → (starts_with (line_of e) bs ≡ true) × (n ≡ length (line_of e)) → event e n ≡ line_front bs
-a_line bs e n l g a w = ap (event e) w.1 ∙ sym (front_by bs e l g ∙ cond-true (is_line_of e bs) _ _ (and_from (allowed e) _ a w.0))
+pub a_line : (bs : List ℕ) (e : Ev) (n : ℕ) → 1 ≤ length bs → e ≡ guess bs → (is_line_of e bs ≡ true) × (n ≡ length (line_of e)) → event e n ≡ line_front bs
+a_line bs e n l g w = ap (event e) w.1 ∙ sym (front_by bs e l g ∙ cond-true (is_line_of e bs) _ _ w.0)
 
 pub line_inside : (e : Ev) (n : ℕ) (bs : List ℕ) → event e n ≡ line_front bs → (1 ≤ n) × (n ≤ length bs)
 line_inside e n bs h =

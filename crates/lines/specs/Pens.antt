@@ -6,7 +6,7 @@ use Rattle.std.proofs.lemmas.List.{append_assoc, append_cancel_left, length-appe
 use Rattle.model.specs.Events.{Ev}
 use Rattle.lines.specs.declared.count.Count.{Count}
 use Rattle.lines.specs.declared.compare.Compare.{Compare}
-use Rattle.lines.specs.Line.{starts_with, line_of}
+use Rattle.lines.specs.Line.{line_of, is_line_of}
 
 -- counting
 
@@ -57,10 +57,10 @@ off_append xs ys (Some s) (Some t) (Some u) p q = p ∙ (ap (λ l. xs ++ l) q �
 pub compare_onward : (s t u : Compare) (xs ys : List ℕ) → Compared s xs t → Compared t ys u → Compared s (xs ++ ys) u
 compare_onward s t u xs ys p q = off_append xs ys s.left t.left u.left p q
 
--- whether the bytes begin with an event's line, and how long that is
+-- whether the bytes begin with the line of an event, which is allowed, and how long that is
 abbrev pub LineWithin : Ev → List ℕ → Option ℕ → Type 0
-LineWithin e bs None = starts_with (line_of e) bs ≡ false
-LineWithin e bs (Some n) = (starts_with (line_of e) bs ≡ true) × (n ≡ length (line_of e))
+LineWithin e bs None = is_line_of e bs ≡ false
+LineWithin e bs (Some n) = (is_line_of e bs ≡ true) × (n ≡ length (line_of e))
 
 abbrev pub weight_of : Ev → ℕ
 weight_of e = length (line_of e)

@@ -11,13 +11,6 @@ fn digit(n: u8) -> u8
     if n < 10 { b'0' + n } else { b'A' - 10 + n }
 }
 
-// The two hexadecimal digits of a byte, 0 to 9 and A to F.
-pub fn hex(byte: u8) -> [u8; 2]
-    ensures { result ≡ hex_digit (byte / 16) ∷ hex_digit (byte % 16) ∷ [] }
-{
-    [digit(byte / 16), digit(byte % 16)]
-}
-
 // Whether a byte of a text is written as a backslash and two digits.
 fn escapes(byte: u8) -> bool
     ensures { result ≡ is_escaped byte }

@@ -6,7 +6,6 @@ ghost use Rattle.lines.specs.Ends.{front_of, Inside};
 use crate::compare::line_within;
 use crate::told::Told;
 use yaml::Cause;
-use yaml::event::allowed;
 
 // Reads the line at the front, whose event is told, and answers how many bytes it has; none where there is no byte.
 pub fn read_front(rest: &[u8], told: &mut Told) -> Result<Option<usize>, Cause>
@@ -17,11 +16,7 @@ pub fn read_front(rest: &[u8], told: &mut Told) -> Result<Option<usize>, Cause>
         return Ok(None);
     }
     told.read(rest)?;
-    let seeming = told.event();
-    if !allowed(&seeming) {
-        return Err(Cause::NotALine);
-    }
-    match line_within(&seeming, rest) {
+    match line_within(&told.event(), rest) {
         Some(size) => Ok(Some(size)),
         None => Err(Cause::NotALine),
     }

@@ -12,6 +12,6 @@ pub mod reader;
 mod told;
 pub mod writer;
 
-pub use byte::{escape, hex};
+pub use byte::escape;
 pub use reader::LineReader;
 pub use writer::LineWriter;

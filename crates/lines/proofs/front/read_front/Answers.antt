@@ -1,10 +1,9 @@
 use Rattle.std.proofs.Common.{◌≡◌, sym, ap, ◌∙◌, arith}
-use Rattle.std.proofs.lemmas.Bool.{eqb-true, eqb-false, and_left, and_right}
+use Rattle.std.proofs.lemmas.Bool.{eqb-true, eqb-false}
 use Rattle.std.proofs.lemmas.Result.{err_from_is_err_and}
-use Rattle.model.specs.Events.{allowed}
 use Rattle.model.specs.Reading.{event}
 use Rattle.yaml.specs.Shapes.{ev_of}
-use Rattle.lines.specs.Line.{line_of, starts_with, guess, line_front}
+use Rattle.lines.specs.Line.{is_line_of, line_front}
 use Rattle.lines.specs.Telling.{ev_told}
 use Rattle.lines.proofs.Fronting.{no_bytes, no_line, a_line, line_inside}
 use Rattle.lines.proofs.front.read_front.Goals as goal
@@ -18,23 +17,16 @@ returns-in_err-read-clause-front c =
     let e = c.in_err-read.ensures in
     rw (p.1, p.2, e.0) (no_line c.args.rest.now (omega (arith, eqb-false _ _ (sym c.if-is_empty.ensures))) e.1)
 
-pub returns-then-not-allowed-clause-front : goal.returns-then-not-allowed-clause-front
-returns-then-not-allowed-clause-front c =
-    let bs = c.args.rest.now in
-    let a : allowed (guess bs) ≡ _ = ap allowed (sym c.in_ok-read.ensures) ∙ (ap allowed (sym c.event-seeming.ensures) ∙ sym c.if-not-allowed.ensures) in
-    no_line bs (omega (arith, eqb-false _ _ (sym c.if-is_empty.ensures))) (and_left (allowed (guess bs)) _ a)
-
 pub returns-in-Some : goal.returns-in-Some
 returns-in-Some c =
     let bs = c.args.rest.now in
     let n = c.in-Some.size in
     let e = ev_told c.read.new.self in
-    let g = c.event-seeming.ensures ∙ c.in_ok-read.ensures in
-    let at : event e n ≡ line_front bs = ap (λ t. event t n) (sym c.event-seeming.ensures) ∙ a_line bs (ev_of c.event-seeming.result) n (omega (arith, eqb-false _ _ (sym c.if-is_empty.ensures))) g (sym c.if-not-allowed.ensures) c.in-Some.ensures in
+    let g = c.event.ensures ∙ c.in_ok-read.ensures in
+    let at : event e n ≡ line_front bs = ap (λ t. event t n) (sym c.event.ensures) ∙ a_line bs (ev_of c.event.result) n (omega (arith, eqb-false _ _ (sym c.if-is_empty.ensures))) g c.in-Some.ensures in
     record { front = at; inside = line_inside e n bs at }
 
 pub returns-in-None-clause-front : goal.returns-in-None-clause-front
 returns-in-None-clause-front c =
     let bs = c.args.rest.now in
-    let g = c.event-seeming.ensures ∙ c.in_ok-read.ensures in
-    no_line bs (omega (arith, eqb-false _ _ (sym c.if-is_empty.ensures))) (and_right (allowed (guess bs)) _ (ap (λ e. starts_with (line_of e) bs) (sym g) ∙ c.in-None.ensures))
+    no_line bs (omega (arith, eqb-false _ _ (sym c.if-is_empty.ensures))) (ap (λ e. is_line_of e bs) (sym (c.event.ensures ∙ c.in_ok-read.ensures)) ∙ c.in-None.ensures)
