@@ -3,7 +3,7 @@ ghost use Rattle.std.specs.Prelude.{◌≡◌, ◌<◌, ◌/◌, ◌%◌, [], �
 ghost use Rattle.std.specs.List.{position};
 ghost use Rattle.lines.specs.Line.{escapes as is_escaped, escape_byte, hex as hex_digit, unhex as hex_value, unescaped};
 
-// The hexadecimal digit of a number below 16.
+// The hexadecimal digit of a number below 16, in upper case, where the library's `from_digit` gives lower case.
 fn digit(n: u8) -> u8
     requires { n < 16 }
     ensures { result ≡ hex_digit n }
@@ -43,7 +43,7 @@ pub fn escape(byte: u8) -> Option<[u8; 3]>
     }
 }
 
-// The number of a hexadecimal digit; of any other byte, some number.
+// The number of a hexadecimal digit in upper case; of any other byte, some number, as its definition has it, where the library's `to_digit` takes lower case too.
 fn unhex(digit: u8) -> u8
     ensures { result ≡ hex_value digit }
 {

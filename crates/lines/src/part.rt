@@ -7,7 +7,7 @@ use crate::buffer::Buffer;
 use crate::byte::unescape;
 use yaml::Cause;
 
-// The byte at a place; past the end, 0, as the definition of an escaped text has it.
+// The byte at a place; past the end, 0: the definition of what an escape tells has no other answer for a digit that is missing.
 fn byte_at(bytes: &[u8], i: usize) -> u8
     ensures { result ≡ slice_index bytes.now i }
 {
@@ -27,6 +27,7 @@ fn read_text<'a, const N: usize>(bytes: &'a [u8], text: &mut Buffer<N>) -> Resul
     ensures { ReadPart N (untext 0 bytes.now) (past 0 bytes.now) text.new result }
 {
     let mut rest = bytes;
+    // an escape takes three bytes and any other byte is one, which no iterator of the library steps by
     'bytes: loop {
         let (byte, after) = match byte_at(rest, 0) {
             0..=b' ' => return Ok(rest),

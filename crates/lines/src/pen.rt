@@ -33,6 +33,7 @@ fn write_text<P: Pen>(pen: &mut P, text: &[u8])
     ensures room { P.Pen.room pen.old ≤ P.Pen.room pen.new + length (escape_text text.now) }
 {
     let mut rest = text;
+    // `split_inclusive` would have us ask of each piece again whether its last byte is escaped
     'text: while let Some(at) = first_escaped(rest) {
         let (front, back) = rest.split_at(at);
         pen.put(front);
@@ -63,7 +64,8 @@ fn write_optional<P: Pen>(pen: &mut P, mark: u8, text: &[u8])
     }
 }
 
-// Writes the value of a scalar; of any other event, nothing.
+// Writes the value of a scalar; of any other event, nothing. Not one routine with the one above: whether a value stands depends on the kind, and one of no
+// bytes stands too.
 fn write_value<P: Pen>(pen: &mut P, kind: EventKind, text: &[u8])
     requires { length (value_part kind text.now) ≤ P.Pen.room pen.old }
     ensures wrote { P.Pen.wrote pen.old (value_part kind text.now) pen.new }
@@ -74,7 +76,7 @@ fn write_value<P: Pen>(pen: &mut P, kind: EventKind, text: &[u8])
     }
 }
 
-// The word that a line begins with.
+// The word that a line begins with. No `From`: the kind and the array are types of other crates.
 fn word(kind: EventKind) -> [u8; 4]
     ensures { result ≡ word_of kind }
 {

@@ -70,7 +70,7 @@ impl Told {
         }
     }
 
-    // Becomes the copy of another; of the buffers, only what its texts take up is copied.
+    // Becomes the copy of another; of the buffers, only what its texts take up is copied, where a `Clone` would make them whole.
     pub fn copy_from(&mut self, other: &Told)
         ensures { self.new ≡ other.now }
     {

@@ -6,7 +6,8 @@ ghost use Rattle.lines.specs.Line.{line_front};
 pub mod sink;
 mod store;
 
-// The slice, and how many of its bytes hold lines; these bytes are read to their end.
+// The slice, and how many of its bytes hold lines; these bytes are read to their end. A form this project keeps: a sink writes into a slice that is lent
+// to it, with no heap.
 #[derive(Drop)]
 pub struct LineWriter<'a> {
     out: &'a mut [u8],

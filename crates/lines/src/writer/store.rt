@@ -7,7 +7,7 @@ ghost use Rattle.lines.specs.Line.{line_of};
 use crate::pen::{Pen, write_line};
 use yaml::Event;
 
-// The slice, and the place where the next byte is stored.
+// The slice, and the place where the next byte is stored: the bytes that stand before the line stay in sight, so no part of the slice is cut off.
 #[derive(Drop)]
 pub struct Store<'a> {
     pub out: &'a mut [u8],
