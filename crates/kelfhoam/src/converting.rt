@@ -19,6 +19,7 @@ pub enum Failure {
     Unconverted { why: Unconverted, events: usize },
 }
 
+// A want of memory.
 impl From<AllocError> for Failure {
     fn from(_e: AllocError) -> Failure {
         Failure::Memory
@@ -98,6 +99,7 @@ struct Summary<'a> {
     output: &'a Output,
 }
 
+// A line for each count.
 impl<'a> fmt::Display for Summary<'a> {
     fn fmt<W: fmt::Write>(&self, f: &mut fmt::Formatter<W>) -> fmt::Result {
         let survey = &self.output.survey;

@@ -3,6 +3,7 @@ use anyhow::bail;
 use std::fmt;
 use std::str::FromStr;
 
+// A form of events.
 #[derive(Clone, Copy, PartialEq, Eq)]
 pub enum Form {
     Packed,
@@ -19,6 +20,7 @@ impl Form {
     }
 }
 
+// The form in a word, as the command line has it.
 impl fmt::Display for Form {
     fn fmt<W: fmt::Write>(&self, f: &mut fmt::Formatter<W>) -> fmt::Result {
         f.write_str(match self {
@@ -28,6 +30,7 @@ impl fmt::Display for Form {
     }
 }
 
+// The form that a word names.
 impl FromStr for Form {
     type Err = anyhow::Error;
 

@@ -20,6 +20,7 @@ pub fn each_document<F: FnMut(usize, &Loaded, &Tables<'_>) -> anyhow::Result<()>
     with_reader!(Form::of(input), input, reader => each_of(rt, reader, input, document))
 }
 
+// The same over the reader of the input.
 fn each_of<S: Source + Drop, F: FnMut(usize, &Loaded, &Tables<'_>) -> anyhow::Result<()>>(
     rt: &HostRuntime,
     source: S,

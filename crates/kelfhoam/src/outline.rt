@@ -41,6 +41,7 @@ fn meetings(heap: Global, d: &Document<'_>) -> Result<Vec<Met>, AllocError> {
     Ok(met)
 }
 
+// Counts one meeting of a node.
 fn bump(met: &mut Vec<Met>, node: u32) {
     if let Some(met) = met.get_mut(node as usize) {
         met.times = met.times.saturating_add(1);
@@ -81,6 +82,7 @@ fn child_mark(d: &Document<'_>, parent: u32, place: u32) -> &'static str {
 }
 
 impl Outline {
+    // An outline of which nothing is told yet.
     fn new(heap: Global, d: &Document<'_>) -> Result<Outline, AllocError> {
         Ok(Outline {
             text: Vec::new(heap),

@@ -22,6 +22,7 @@ pub enum Failure {
     Refused { refusal: Refusal, documents: usize },
 }
 
+// A want of memory.
 impl From<AllocError> for Failure {
     fn from(_e: AllocError) -> Failure {
         Failure::Memory
@@ -55,6 +56,7 @@ struct Failed<'a> {
     input: &'a [u8],
 }
 
+// Number, place and cause.
 impl<'a> fmt::Display for Failed<'a> {
     fn fmt<W: fmt::Write>(&self, f: &mut fmt::Formatter<W>) -> fmt::Result {
         if self.failure.is_no_space() {
@@ -160,6 +162,7 @@ struct Summary<'a> {
     redumped: &'a Redumped,
 }
 
+// A line for each count.
 impl<'a> fmt::Display for Summary<'a> {
     fn fmt<W: fmt::Write>(&self, f: &mut fmt::Formatter<W>) -> fmt::Result {
         let totals = &self.redumped.totals;

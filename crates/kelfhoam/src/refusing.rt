@@ -24,6 +24,7 @@ impl<'a> RefusedLoad<'a> {
     }
 }
 
+// Number, place and cause.
 impl<'a> fmt::Display for RefusedLoad<'a> {
     fn fmt<W: fmt::Write>(&self, f: &mut fmt::Formatter<W>) -> fmt::Result {
         let refusal = self.refusal;
@@ -61,6 +62,7 @@ impl<'a> fmt::Display for RefusedLoad<'a> {
 #[derive(Drop)]
 pub struct RefusedStand(pub document::Refusal);
 
+// Number, node and cause.
 impl fmt::Display for RefusedStand {
     fn fmt<W: fmt::Write>(&self, f: &mut fmt::Formatter<W>) -> fmt::Result {
         write!(
@@ -80,6 +82,7 @@ pub struct RefusedDump {
     pub documents: usize,
 }
 
+// Number, document, node and cause.
 impl fmt::Display for RefusedDump {
     fn fmt<W: fmt::Write>(&self, f: &mut fmt::Formatter<W>) -> fmt::Result {
         let why = self.refused.why;

@@ -46,18 +46,21 @@ pub enum Refusal {
     Dump(Refused),
 }
 
+// A refused load.
 impl From<loader::Refusal> for Refusal {
     fn from(refusal: loader::Refusal) -> Refusal {
         Refusal::Load(refusal)
     }
 }
 
+// Tables on which no Document stands.
 impl From<document::Refusal> for Refusal {
     fn from(refusal: document::Refusal) -> Refusal {
         Refusal::Stand(refusal)
     }
 }
 
+// A refused call of the writer.
 impl From<Refused> for Refusal {
     fn from(refused: Refused) -> Refusal {
         Refusal::Dump(refused)
@@ -84,7 +87,7 @@ fn redump_documents<S: Source, K: Sink>(
     Ok(())
 }
 
-// The whole stream. What was taken before a refusal stands in the sink, and the totals tell it.
+// The whole stream. What was taken before a refusal stands in the sink, and the totals tell it: so they are lent, and not answered on Ok alone.
 pub fn redump<S: Source + Drop, K: Sink + Drop>(
     source: S,
     sink: K,

@@ -12,6 +12,7 @@ fn named(line: &[u8]) -> (&[u8], &[u8]) {
     }
 }
 
+// The line in front of what a list comes to.
 fn put_title(out: &mut Vec<u8>, name: &[u8], number: usize) -> io::Result<()> {
     if name.is_empty() {
         return writeln!(out, "list {number}");

@@ -7,6 +7,7 @@ use std::fmt::{self, Write};
 #[derive(Drop)]
 pub struct Place(pub Mark);
 
+// Three numbers.
 impl fmt::Display for Place {
     fn fmt<W: fmt::Write>(&self, f: &mut fmt::Formatter<W>) -> fmt::Result {
         write!(f, "{} {} {}", self.0.index, self.0.line, self.0.column)
@@ -17,6 +18,7 @@ impl fmt::Display for Place {
 #[derive(Drop)]
 pub struct Escaped<'a>(pub &'a [u8]);
 
+// The bytes that the line writer writes for the text.
 impl<'a> fmt::Display for Escaped<'a> {
     fn fmt<W: fmt::Write>(&self, f: &mut fmt::Formatter<W>) -> fmt::Result {
         for b in self.0 {

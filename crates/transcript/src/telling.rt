@@ -24,6 +24,7 @@ pub struct Desk {
 }
 
 impl Desk {
+    // Memory for any list within the limits.
     pub fn new(heap: Global) -> Result<Desk, AllocError> {
         Ok(Desk {
             load: LoadRoom::new(heap)?,
