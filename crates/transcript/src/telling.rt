@@ -1,8 +1,8 @@
 // One list: its loads, and what is written again.
 use crate::shown::{Escaped, Place};
 use composer::Tables;
-use document::limits::MAX_NODES;
 use document::Document;
+use document::limits::MAX_NODES;
 use dumper::{Refused, Why, Writer};
 use lines::LineWriter;
 use loader::{Loaded, Loader, Refusal};
