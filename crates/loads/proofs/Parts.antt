@@ -83,7 +83,7 @@ new_placed Mapping style links text tag value start end =
 
 -- a sum where one entry changes
 pub sum_set : (f : Node → ℕ) (vs : List Node) (i : ℕ) (v w : Node) → nth vs i ≡ Some v → sum_by f (set vs i w) + f v ≡ sum_by f vs + f w
-sum_set f [] i v w h = let z : ◌≡◌ {A = ℕ} 0 1 = cc in absurd (omega (arith, z))
+sum_set f [] i v w h = cc
 sum_set f (x ∷ vs) zero v w h = let e : x ≡ v = cc in omega (arith, ap f e, sum_by-cons f x vs, sum_by-cons f w vs)
 sum_set f (x ∷ vs) (suc i) v w h = omega (arith, sum_set f vs i v w h, sum_by-cons f x vs, sum_by-cons f x (set vs i w))
 

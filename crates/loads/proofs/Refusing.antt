@@ -41,7 +41,7 @@ err_next (Ok u) f e h = inr (u, refl, h)
 err_next (Err q) f e h = inl h
 
 never : (s : St) (e : Refusal) → Ok s ≡ Err e → ⊥
-never s e h = let z : ◌≡◌ {A = ℕ} 0 1 = cc in omega (arith, z)
+never s e h = cc
 
 text_same : (k : NodeKind) (m : Marked) → allowed m.event ≡ true → m.event.kind ≡ start_kind k → length (value_for k m.event.value) ≡ length m.event.value
 text_same k m ok is = ap length (value_told k m.event.value (no_value m.event k ok is))
@@ -95,14 +95,14 @@ why_adding (f ∷ fs) sp at v s u e w l h = elim (err_if (ltb (length u.waiting)
 why_naming : (o : Option ℕ) (sp : Spaces) (k : NodeKind) (m : Marked) (s : St) (b : ℕ) (bs : List ℕ) (e : Refusal) → Tidy s → m.event.anchor ≡ b ∷ bs → found s.anchors (b ∷ bs) ≡ o
     → Gives k m s → NodeSpace sp k m s → naming_by o sp m.start (b ∷ bs) (makes k m s) ≡ Err e → Why sp m s e
 why_naming None sp k m s b bs e tidy is f g n h =
-    let none : m.event.anchor ≢ [] = λ q. let z : ◌≡◌ {A = ℕ} 0 1 = cc in omega (arith, z) in
+    let none : m.event.anchor ≢ [] = λ q. cc in
     let new : named m.event.anchor (composed_of s).names ≡ None = ap (λ a. named a (composed_of s).names) is ∙ sym (tidy.names (b ∷ bs)) ∙ f in
     elim (err_if (ltb (length s.anchors) sp.anchors) _ (AnchorsFull m.start) e h) [
       | inl a ↦ anchors_full k a.1 g n none new (ltb-false _ _ a.0)
       | inr a ↦ absurd (never (with_anchor (entry_of (b ∷ bs) (length (makes k m s).nodes)) (makes k m s)) e a.1)
     ]
 why_naming (Some v) sp k m s b bs e tidy is f g n h =
-    let none : m.event.anchor ≢ [] = λ q. let z : ◌≡◌ {A = ℕ} 0 1 = cc in omega (arith, z) in
+    let none : m.event.anchor ≢ [] = λ q. cc in
     let old : named m.event.anchor (composed_of s).names ≡ Some v = ap (λ a. named a (composed_of s).names) is ∙ sym (tidy.names (b ∷ bs)) ∙ f in
     let front = numbered_front s.nodes (node_from k m.event.style (length s.text) (length (resolved k m.event.tag)) (length (value_for k m.event.value)) m.start m.end ∷ []) v (tidy.known (b ∷ bs) v f).1 in
     let q : e ≡ AnchorAgain m.start (start_of (numbered (makes k m s).nodes v)) = cc in
@@ -177,7 +177,7 @@ why_alias (Some v) sp m s e tidy f g h =
 
 why_closing : (fs : List Frame) (stop : Mark) (s : St) (e : Refusal) → closing fs stop s ≡ Err e → ⊥
 why_closing [] stop s e h = never s e h
-why_closing (f ∷ fs) stop s e h = let z : ◌≡◌ {A = ℕ} 0 1 = cc in omega (arith, z)
+why_closing (f ∷ fs) stop s e h = cc
 
 by_kind : (k : EventKind) (sp : Spaces) (m : Marked) (s : St) (e : Refusal) → m.event.kind ≡ k → allowed m.event ≡ true → Tidy s → InTurn k (composed_of s) m.event → taken k sp m s ≡ Err e → Why sp m s e
 by_kind StreamStart sp m s e is ok tidy t h = absurd t
@@ -208,7 +208,7 @@ node_turned Sequence sp m s e g h = turned SequenceStart sp m s (Err e) g.kind (
 node_turned Mapping sp m s e g h = turned MappingStart sp m s (Err e) g.kind (child_off s g.turn) (ap (λ r. next r (opening Mapping m.start)) h)
 
 start_turned : (k : NodeKind) (sp : Spaces) (m : Marked) (s : St) (e : Refusal) → is_collection k ≡ true → Gives k m s → start_step sp k m s ≡ Err e → taking sp m s ≡ Err e
-start_turned Scalar sp m s e c g h = let z : ◌≡◌ {A = ℕ} 0 1 = cc in absurd (omega (arith, z))
+start_turned Scalar sp m s e c g h = cc
 start_turned Sequence sp m s e c g h = turned SequenceStart sp m s (Err e) g.kind (child_off s g.turn) h
 start_turned Mapping sp m s e c g h = turned MappingStart sp m s (Err e) g.kind (child_off s g.turn) h
 
@@ -316,7 +316,7 @@ module _ (sp : Spaces) (start : Marked) (after : Option Fault) where
       let q : f ≡ e = cc in
       inl (record { events = []; at = m; rest = ms; state = s; parts = refl; went = none; why = subst (Why sp m s) q (because sp m s f ok tidy is) })
   one_refused s m ms e ok tidy on (Ok t) is h = elim (cases_Bool (is_document_end m.event.kind)) [
-    | inl y ↦ let a = rw y at h in let z : ◌≡◌ {A = ℕ} 0 1 = cc in absurd (omega (arith, z))
+    | inl y ↦ let a = rw y at h in cc
     | inr f ↦ elim (on t (step_composes sp m s t ok f tidy is).tidy (rw f at h)) [
       | inl r ↦ inl (record { events = m ∷ r.events; at = r.at; rest = r.rest; state = r.state; parts = ap (λ l. m ∷ l) r.parts; went = more f is r.went; why = r.why })
       | inr r ↦ inr (record { state = r.state; went = more f is r.went; is = r.is })

@@ -1,5 +1,5 @@
 -- Whole runs.
-use Rattle.std.proofs.Common.{◌≡◌, ℕ, true, cond, List, [], ◌∷◌, ◌++◌, map, Some, Ok, Err, Option, Result, sym, refl, ap, ◌∙◌, subst, inl, inr, arith}
+use Rattle.std.proofs.Common.{◌≡◌, ℕ, true, cond, List, [], ◌∷◌, ◌++◌, map, Some, Ok, Err, Option, Result, sym, refl, ap, ◌∙◌, subst, inl, inr}
 use Rattle.std.proofs.lemmas.List.{map-append}
 use Rattle.std.proofs.lemmas.Bool.{and_parts, and_from, cases_Bool}
 use Rattle.model.specs.declared.EventKind.{EventKind}
@@ -24,16 +24,16 @@ use Rattle.loads.proofs.Steps.{step_composes, blank_tidy}
 
 -- a document's end changes nothing
 document_end : (k : EventKind) → is_document_end k ≡ true → k ≡ DocumentEnd
-document_end StreamStart h = let z : ◌≡◌ {A = ℕ} 0 1 = cc in absurd (omega (arith, z))
-document_end StreamEnd h = let z : ◌≡◌ {A = ℕ} 0 1 = cc in absurd (omega (arith, z))
-document_end DocumentStart h = let z : ◌≡◌ {A = ℕ} 0 1 = cc in absurd (omega (arith, z))
+document_end StreamStart h = cc
+document_end StreamEnd h = cc
+document_end DocumentStart h = cc
 document_end DocumentEnd h = refl
-document_end Alias h = let z : ◌≡◌ {A = ℕ} 0 1 = cc in absurd (omega (arith, z))
-document_end Scalar h = let z : ◌≡◌ {A = ℕ} 0 1 = cc in absurd (omega (arith, z))
-document_end SequenceStart h = let z : ◌≡◌ {A = ℕ} 0 1 = cc in absurd (omega (arith, z))
-document_end SequenceEnd h = let z : ◌≡◌ {A = ℕ} 0 1 = cc in absurd (omega (arith, z))
-document_end MappingStart h = let z : ◌≡◌ {A = ℕ} 0 1 = cc in absurd (omega (arith, z))
-document_end MappingEnd h = let z : ◌≡◌ {A = ℕ} 0 1 = cc in absurd (omega (arith, z))
+document_end Alias h = cc
+document_end Scalar h = cc
+document_end SequenceStart h = cc
+document_end SequenceEnd h = cc
+document_end MappingStart h = cc
+document_end MappingEnd h = cc
 
 pub end_taking : (sp : Spaces) (m : Marked) (s : St) → is_document_end m.event.kind ≡ true
     → taking sp m s ≡ cond (ends_document s.frames s.nodes) (Ok s) (Err (NotInTurn m.start))
@@ -50,7 +50,7 @@ module _ (sp : Spaces) (start : Marked) (after : Option Fault) where
       → (r : Result St Refusal) → taking sp m s ≡ r
       → (stepped r start m (flowing (Some m.event) ms after) (λ t. running sp start after (Some m.event) t ms)).answer ≡ Ok (Some l)
       → Ran sp start after s (m ∷ ms) (stepped r start m (flowing (Some m.event) ms after) (λ t. running sp start after (Some m.event) t ms))
-  ran_one latest s m ms l on (Err e) is h = let z : ◌≡◌ {A = ℕ} 0 1 = cc in absurd (omega (arith, z))
+  ran_one latest s m ms l on (Err e) is h = cc
   ran_one latest s m ms l on (Ok t) is h = elim (cases_Bool (is_document_end m.event.kind)) [
     | inl y ↦ let q = end_ok sp m s t y is in
         rw y (record { events = []; last = m; rest = ms; end_state = t; parts = refl; ends = y; went = subst (λ u. Went sp s [] u) (sym q.1) none; whole = rw q.1 q.0; is = refl })
@@ -71,7 +71,7 @@ module _ (sp : Spaces) (start : Marked) (after : Option Fault) where
 
 pub loaded_ran : LoadedRan
 unfolding running
-loaded_ran sp start after latest s [] l h = let z : ◌≡◌ {A = ℕ} 0 1 = cc in absurd (omega (arith, z))
+loaded_ran sp start after latest s [] l h = cc
 loaded_ran sp start after latest s (m ∷ ms) l h = ran_one sp start after latest s m ms l (λ t. loaded_ran sp start after (Some m.event) t ms l) (taking sp m s) refl h
 
 pub ran_loaded : RanLoaded
@@ -94,9 +94,9 @@ went_composes sp s t es ok tidy (more {t = u} {m = m} {ms = ms} other is went) =
     record { tidy = b.tidy; taken = TakesAll.more a.taken b.taken }
 
 pub whole_open : (fs : List Frame) (vs : List Node) (waiting : List ℕ) → ends_document fs vs ≡ true → open_ones_of fs (root_of vs) waiting ≡ frame 0 (1 ∷ []) ∷ []
-whole_open [] [] waiting h = let z : ◌≡◌ {A = ℕ} 0 1 = cc in absurd (omega (arith, z))
+whole_open [] [] waiting h = cc
 whole_open [] (v ∷ vs) waiting h = refl
-whole_open (f ∷ fs) vs waiting h = let z : ◌≡◌ {A = ℕ} 0 1 = cc in absurd (omega (arith, z))
+whole_open (f ∷ fs) vs waiting h = cc
 
 pub allowed_append : (es fs : List Ev) → all_allowed (es ++ fs) ≡ true → (all_allowed es ≡ true) × (all_allowed fs ≡ true)
 allowed_append [] fs h = (refl, h)

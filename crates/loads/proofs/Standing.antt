@@ -69,7 +69,7 @@ right_node k m s ok is tidy r =
     }
 
 right_alias : (o : Option ℕ) (sp : Spaces) (m : Marked) (s t : St) → found s.anchors m.event.anchor ≡ o → Tidy s → Right s → alias_of o sp m.start s ≡ Ok t → Right t
-right_alias None sp m s t is tidy r h = let z : ◌≡◌ {A = ℕ} 0 1 = cc in absurd (omega (arith, z))
+right_alias None sp m s t is tidy r h = cc
 right_alias (Some v) sp m s t is tidy r h =
     let k = tidy.known m.event.anchor v is in
     rw (adding_ok s.frames sp m.start v s t refl h) (record { nodes = r.nodes; waits = waits_added s.frames (length s.nodes) v s.waiting k.0 k.1 r.waits })

@@ -39,7 +39,7 @@ noding_ok sp k m s t h =
 pub naming_ok : (o : Option ℕ) (sp : Spaces) (at : Mark) (bytes : List ℕ) (s t : St) → naming_by o sp at bytes s ≡ Ok t
     → (o ≡ None) × (t ≡ with_anchor (entry_of bytes (length s.nodes)) s)
 naming_ok None sp at bytes s t h = let e = (ok_if (ltb (length s.anchors) sp.anchors) _ (AnchorsFull at) t h).1 in (refl, (cc))
-naming_ok (Some v) sp at bytes s t h = let z : ◌≡◌ {A = ℕ} 0 1 = cc in absurd (omega (arith, z))
+naming_ok (Some v) sp at bytes s t h = cc
 
 pub registering_ok : (bytes : List ℕ) (sp : Spaces) (at : Mark) (s t : St) → registering bytes sp at s ≡ Ok t → NewName bytes s.anchors × (t ≡ named_as bytes s)
 registering_ok [] sp at s t h = (tt, (cc))
@@ -122,14 +122,14 @@ node_taken k m s bare turn new t =
 pub scalar_step : (sp : Spaces) (m : Marked) (s t : St) → m.event.kind ≡ ScalarEvent → takes_child s.frames s.nodes ≡ true → Tidy s → node_step sp Scalar m s ≡ Ok t → TakenIn m s t
 scalar_step sp m s t kind turn tidy h =
     let a = node_ok sp Scalar m s t h in
-    let r = node_taken Scalar m s (λ c. let z : ◌≡◌ {A = ℕ} 0 1 = cc in absurd (omega (arith, z))) turn a.0 tidy in
+    let r = node_taken Scalar m s (λ c. cc) turn a.0 tidy in
     rw a.1 (record { tidy = r.tidy; taken = scalar kind r.was r.takes r.new r.stands })
 
 pub opening_ok : (k : NodeKind) (at : Mark) (s t : St) → opening k at s ≡ Ok t → t ≡ with_frame (opened (is_mapping k) (length s.nodes)) s
 opening_ok k at s t h = let e = (ok_if (ltb (length s.frames) 256) _ (TooDeep at) t h).1 in cc
 
 mapping_kind : (k : NodeKind) → is_collection k ≡ true → kind_number k ≡ kind_number (collection_kind (is_mapping k))
-mapping_kind Scalar c = let z : ◌≡◌ {A = ℕ} 0 1 = cc in absurd (omega (arith, z))
+mapping_kind Scalar c = cc
 mapping_kind Sequence c = refl
 mapping_kind Mapping c = refl
 

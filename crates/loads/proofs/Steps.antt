@@ -29,7 +29,7 @@ root_there (v ∷ vs) h = refl
 
 alias_step : (o : Option ℕ) (sp : Spaces) (m : Marked) (s t : St) → found s.anchors m.event.anchor ≡ o → m.event.kind ≡ Alias → takes_child s.frames s.nodes ≡ true
     → Tidy s → alias_of o sp m.start s ≡ Ok t → TakenIn m s t
-alias_step None sp m s t is kind turn tidy h = let z : ◌≡◌ {A = ℕ} 0 1 = cc in absurd (omega (arith, z))
+alias_step None sp m s t is kind turn tidy h = cc
 alias_step (Some v) sp m s t is kind turn tidy h =
     let k = tidy.known m.event.anchor v is in
     let r = received s.frames s.nodes s.waiting v turn tidy.opens (λ none. absurd (omega (arith, k, ap length none))) in
@@ -45,11 +45,11 @@ ends false fs = ends_sequence fs
 ends true fs = ends_mapping fs
 
 pub ends_some : (mapping : Bool) → ends mapping [] ≡ true → ⊥
-ends_some false h = let z : ◌≡◌ {A = ℕ} 0 1 = cc in omega (arith, z)
-ends_some true h = let z : ◌≡◌ {A = ℕ} 0 1 = cc in omega (arith, z)
+ends_some false h = cc
+ends_some true h = cc
 
 pub ends_fit : (mapping : Bool) (f : Frame) (fs : List Frame) → ends mapping (f ∷ fs) ≡ true → (f.mapping ≡ mapping) × (mapping ≡ true → f.children % 2 ≡ 0)
-ends_fit false f fs h = (not-true f.mapping h, λ e. let z : ◌≡◌ {A = ℕ} 0 1 = cc in absurd (omega (arith, z)))
+ends_fit false f fs h = (not-true f.mapping h, λ e. cc)
 ends_fit true f fs h = let p = and_parts f.mapping (eqb (f.children % 2) 0) h in (p.0, λ e. eqb-true (f.children % 2) 0 p.1)
 
 pub end_step : (mapping : Bool) (fs : List Frame) (m : Marked) (s t : St) → s.frames ≡ fs → m.event.kind ≡ end_kind (collection_kind mapping)
@@ -67,10 +67,10 @@ end_step mapping (f ∷ fs) m s t is kind turn tidy h =
 
 by_kind : (k : EventKind) (sp : Spaces) (m : Marked) (s t : St) → m.event.kind ≡ k → is_document_end k ≡ false → allowed m.event ≡ true → Tidy s
     → in_turn k s ≡ true → taken k sp m s ≡ Ok t → TakenIn m s t
-by_kind StreamStart sp m s t is other ok tidy turn h = let z : ◌≡◌ {A = ℕ} 0 1 = cc in absurd (omega (arith, z))
-by_kind StreamEnd sp m s t is other ok tidy turn h = let z : ◌≡◌ {A = ℕ} 0 1 = cc in absurd (omega (arith, z))
-by_kind DocumentStart sp m s t is other ok tidy turn h = let z : ◌≡◌ {A = ℕ} 0 1 = cc in absurd (omega (arith, z))
-by_kind DocumentEnd sp m s t is other ok tidy turn h = let z : ◌≡◌ {A = ℕ} 0 1 = cc in absurd (omega (arith, z))
+by_kind StreamStart sp m s t is other ok tidy turn h = cc
+by_kind StreamEnd sp m s t is other ok tidy turn h = cc
+by_kind DocumentStart sp m s t is other ok tidy turn h = cc
+by_kind DocumentEnd sp m s t is other ok tidy turn h = cc
 by_kind Alias sp m s t is other ok tidy turn h = alias_step (found s.anchors m.event.anchor) sp m s t refl is turn tidy h
 by_kind ScalarEvent sp m s t is other ok tidy turn h = scalar_step sp m s t is turn tidy h
 by_kind SequenceStart sp m s t is other ok tidy turn h = start_step_lem sp Sequence m s t refl is (no_value m.event Sequence ok is refl) turn tidy h
@@ -88,7 +88,7 @@ blank_tidy = record {
   placed = tt;
   opens = refl;
   names = λ a. refl;
-  known = λ a v h. let z : ◌≡◌ {A = ℕ} 0 1 = cc in absurd (omega (arith, z));
+  known = λ a v h. cc;
   texts = refl;
   placed_links = refl;
 }

@@ -1,5 +1,5 @@
 -- The loader's turns are composing's.
-use Rattle.std.proofs.Common.{◌≡◌, ℕ, Bool, true, false, List, [], ◌∷◌, Ok, refl, ap, ◌∙◌, subst, arith}
+use Rattle.std.proofs.Common.{◌≡◌, Bool, true, false, List, [], ◌∷◌, Ok, refl, ap, ◌∙◌, subst}
 use Rattle.model.specs.declared.EventKind.{EventKind}
 use Rattle.model.specs.declared.EventKind.TheVariants.{StreamStart, StreamEnd, DocumentStart, DocumentEnd, Alias, Scalar as ScalarEvent, SequenceStart, SequenceEnd, MappingStart, MappingEnd}
 use Rattle.model.specs.declared.NodeKind.{NodeKind}
@@ -40,9 +40,9 @@ start_no_end Sequence = refl
 start_no_end Mapping = refl
 
 ends_one : {c d : Composed} {e : Ev} → is_end e.kind ≡ true → TakesIn c e d → EndsOne c e
-ends_one h (alias kind was takes known is) = let q = ap is_end kind in let z : ◌≡◌ {A = ℕ} 0 1 = cc in absurd (omega (arith, z))
-ends_one h (scalar kind was takes new is) = let q = ap is_end kind in let z : ◌≡◌ {A = ℕ} 0 1 = cc in absurd (omega (arith, z))
-ends_one h (start k collection kind was takes new is) = let q = ap is_end kind ∙ start_no_end k in let z : ◌≡◌ {A = ℕ} 0 1 = cc in absurd (omega (arith, z))
+ends_one h (alias kind was takes known is) = let q = ap is_end kind in cc
+ends_one h (scalar kind was takes new is) = let q = ap is_end kind in cc
+ends_one h (start k collection kind was takes new is) = let q = ap is_end kind ∙ start_no_end k in cc
 ends_one h (end {v = v} {children = ks} {frames = fs} {x = x} was here collection kind whole is) =
     record { number = v; children = ks; others = fs; node = x; is = was; here = here; collection = collection; kind = kind; whole = whole }
 
@@ -61,9 +61,9 @@ child_on s turn tidy =
     record { to = r.to; children = r.children; others = r.others; is = r.before; takes = r.takes }
 
 pub turn_on : (k : EventKind) (m : Marked) (s : St) → m.event.kind ≡ k → Tidy s → in_turn k s ≡ true → InTurn k (composed_of s) m.event
-turn_on StreamStart m s is tidy turn = let z : ◌≡◌ {A = ℕ} 0 1 = cc in absurd (omega (arith, z))
-turn_on StreamEnd m s is tidy turn = let z : ◌≡◌ {A = ℕ} 0 1 = cc in absurd (omega (arith, z))
-turn_on DocumentStart m s is tidy turn = let z : ◌≡◌ {A = ℕ} 0 1 = cc in absurd (omega (arith, z))
+turn_on StreamStart m s is tidy turn = cc
+turn_on StreamEnd m s is tidy turn = cc
+turn_on DocumentStart m s is tidy turn = cc
 turn_on DocumentEnd m s is tidy turn = whole_open s.frames s.nodes s.waiting turn
 turn_on Alias m s is tidy turn = child_on s turn tidy
 turn_on ScalarEvent m s is tidy turn = child_on s turn tidy

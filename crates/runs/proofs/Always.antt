@@ -24,13 +24,13 @@ again_numbered g (first w ∷ ts) = on (again_numbered g ts)
   where
     on : ((v : ℕ) → Memᴰ (again v) ts → number_of g v ≢ 0) ⊎ ((v : ℕ) × Memᴰ (again v) ts × (number_of g v ≡ 0))
         → ((v : ℕ) → Memᴰ (again v) (first w ∷ ts) → number_of g v ≢ 0) ⊎ ((v : ℕ) × Memᴰ (again v) (first w ∷ ts) × (number_of g v ≡ 0))
-    on (inl f) = inl (λ v m. elim (Memᴰ.cases_cons m) [ inl e ↦ (let z : ◌≡◌ {A = ℕ} 0 1 = cc in absurd (omega arith)) | inr n ↦ f v n ])
+    on (inl f) = inl (λ v m. elim (Memᴰ.cases_cons m) [ inl e ↦ cc | inr n ↦ f v n ])
     on (inr r) = inr (r.0, Memᴰ.tail r.1, r.2)
 again_numbered g (leave w ∷ ts) = on (again_numbered g ts)
   where
     on : ((v : ℕ) → Memᴰ (again v) ts → number_of g v ≢ 0) ⊎ ((v : ℕ) × Memᴰ (again v) ts × (number_of g v ≡ 0))
         → ((v : ℕ) → Memᴰ (again v) (leave w ∷ ts) → number_of g v ≢ 0) ⊎ ((v : ℕ) × Memᴰ (again v) (leave w ∷ ts) × (number_of g v ≡ 0))
-    on (inl f) = inl (λ v m. elim (Memᴰ.cases_cons m) [ inl e ↦ (let z : ◌≡◌ {A = ℕ} 0 1 = cc in absurd (omega arith)) | inr n ↦ f v n ])
+    on (inl f) = inl (λ v m. elim (Memᴰ.cases_cons m) [ inl e ↦ cc | inr n ↦ f v n ])
     on (inr r) = inr (r.0, Memᴰ.tail r.1, r.2)
 again_numbered g (again w ∷ ts) = on (cases_eq (number_of g w) 0) (again_numbered g ts)
   where

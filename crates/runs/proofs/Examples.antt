@@ -50,7 +50,7 @@ sound = record {
 }
 
 no_again : NumberedAgain book (first 1 ∷ [])
-no_again v m = elim (Memᴰ.cases_cons m) [ inl e ↦ (let z : ◌≡◌ {A = ℕ} 0 1 = cc in absurd (omega arith)) | inr n ↦ absurd (Memᴰ.not-nil n) ]
+no_again v m = elim (Memᴰ.cases_cons m) [ inl e ↦ cc | inr n ↦ absurd (Memᴰ.not-nil n) ]
 
 dump : Called weight (dumping handed) made (accepted 4) dumped
 dump = record {

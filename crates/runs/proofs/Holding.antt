@@ -1,5 +1,5 @@
 -- After every run the sink holds the accepted documents whole, in order, and at most the beginning of one more.
-use Rattle.std.proofs.Common.{◌≡◌, ℕ, Bool, true, false, ◌||◌, ◌⊎◌, List, [], ◌∷◌, ◌++◌, map, sym, refl, ap, ◌∙◌, subst, ap₂, inl, inr, arith}
+use Rattle.std.proofs.Common.{◌≡◌, ℕ, Bool, true, false, ◌||◌, ◌⊎◌, List, [], ◌∷◌, ◌++◌, map, sym, refl, ap, ◌∙◌, subst, ap₂, inl, inr}
 use Rattle.std.proofs.lemmas.List.{append_assoc, append-nil, map-append}
 use Rattle.std.proofs.lemmas.Bool.{both_ways}
 use Rattle.yaml.specs.declared.sink.Refusal.TheVariants.{NotAllowed, NoSpace}
@@ -146,7 +146,7 @@ asked_walked s h (x ∷ g) some a = (a.1.0, a.1.1.1.1.1.0)
 
 no_book : (b : Book) (g : List Vertex) → g ≡ [] → book_in b g ≡ []
 no_book b [] e = refl
-no_book b (x ∷ g) e = let z : ◌≡◌ {A = ℕ} 0 1 = cc in absurd (omega arith)
+no_book b (x ∷ g) e = cc
 
 some_book : (b : Book) (g : List Vertex) → (g ≡ [] → ⊥) → book_in b g ≡ b ∷ []
 some_book b [] some = absurd (some refl)

@@ -77,8 +77,8 @@ cut_cases (d ∷ done) y left x rest e =
     inr (done, ap (λ z. z ∷ done) same, tail)
 
 pub no_cut : {X : Type 0} (done : List X) (y : X) (left : List X) → done ++ y ∷ left ≡ [] → ⊥
-no_cut [] y left e = let z : ◌≡◌ {A = ℕ} 0 1 = cc in omega arith
-no_cut (d ∷ done) y left e = let z : ◌≡◌ {A = ℕ} 0 1 = cc in omega arith
+no_cut [] y left e = cc
+no_cut (d ∷ done) y left e = cc
 
 -- what breaks off before the last of some events is a beginning of those before the last
 pub cut_before_last : {X : Type 0} (done : List X) (y : X) (left : List X) (xs : List X) (x : X) → done ++ y ∷ left ≡ xs ++ x ∷ [] → (later : List X) × (done ++ later ≡ xs)

@@ -1,5 +1,5 @@
 -- What a sink took reads back in one way only.
-use Rattle.std.proofs.Common.{◌≡◌, ℕ, Bool, true, false, List, [], ◌∷◌, map, None, refl, ap, subst, arith, Ok, Some}
+use Rattle.std.proofs.Common.{◌≡◌, Bool, true, false, List, [], ◌∷◌, map, None, refl, ap, subst, arith, Ok, Some}
 use Rattle.std.specs.List.{AllZip}
 use Rattle.model.specs.Events.{Ev}
 use Rattle.model.specs.Reading.{Marked, bare}
@@ -29,8 +29,8 @@ full_sized = record { nodes = omega arith; links = omega arith; text = omega ari
 
 -- a document is not the last answer
 not_last : (b : Bool) (c : Loaded) (a : Answer) → a ≡ Ok (Some c) → a ≡ last_answer b → ⊥
-not_last true c a p q = let z : ◌≡◌ {A = ℕ} 0 1 = cc in omega arith
-not_last false c a p q = let z : ◌≡◌ {A = ℕ} 0 1 = cc in omega arith
+not_last true c a p q = cc
+not_last false c a p q = cc
 
 same_given : (l : Lengths) (o : Outcome) (x y : Book) → Gives x l o → Gives y l o → Alike x y
 same_given l o x y g h =

@@ -55,7 +55,7 @@ append_allowed (x ∷ xs) ys a b =
 
 pub front_taken : {s t : Composed} {es : List Ev} → TakesAll s es t → (xs ys : List Ev) → es ≡ xs ++ ys → (m : Composed) × TakesAll s xs m
 front_taken {s = s} TakesAll.none [] ys e = (s, TakesAll.none)
-front_taken TakesAll.none (x ∷ xs) ys e = let z : ◌≡◌ {A = ℕ} 0 1 = cc in absurd (omega arith)
+front_taken TakesAll.none (x ∷ xs) ys e = cc
 front_taken (TakesAll.more {s = s} one others) [] ys e = (s, TakesAll.none)
 front_taken (TakesAll.more {s = s} {t = t} {e = y} {es = es} one others) (x ∷ xs) ys e =
     let same : y ≡ x = cc in

@@ -1,5 +1,5 @@
 -- What the sink holds reads back.
-use Rattle.std.proofs.Common.{◌≡◌, ℕ, ◌-◌, Bool, true, false, cond, eqb, List, [], ◌∷◌, ◌++◌, map, length, replicate, Some, None, Option, sym, refl, ap, ◌∙◌, subst, ap₂, arith, Err, Ok}
+use Rattle.std.proofs.Common.{◌≡◌, ◌-◌, Bool, true, false, cond, eqb, List, [], ◌∷◌, ◌++◌, map, length, replicate, Some, None, Option, sym, refl, ap, ◌∙◌, subst, ap₂, arith, Err, Ok}
 use Rattle.std.specs.List.{flat_map}
 use Rattle.std.proofs.lemmas.List.{append_assoc, map-append}
 use Rattle.std.proofs.lemmas.Bool.{cond-true, and_parts, and_from}
@@ -37,7 +37,7 @@ pub record Halves (ms : List Marked) (xs ys : List Ev) : Type 0 where
 
 halves : (ms : List Marked) (xs ys : List Ev) → map bare ms ≡ xs ++ ys → Halves ms xs ys
 halves ms [] ys e = record { front = []; rest = ms; all = refl; front_is = refl; rest_is = e }
-halves [] (x ∷ xs) ys e = let z : ◌≡◌ {A = ℕ} 0 1 = cc in absurd (omega arith)
+halves [] (x ∷ xs) ys e = cc
 halves (m ∷ ms) (x ∷ xs) ys e =
     let same : m.event ≡ x = cc in
     let tail : map bare ms ≡ xs ++ ys = cc in
@@ -52,7 +52,7 @@ pub record Headed (ms : List Marked) (x : Ev) (xs : List Ev) : Type 0 where
   pub tail_is : map bare tail ≡ xs
 
 headed : (ms : List Marked) (x : Ev) (xs : List Ev) → map bare ms ≡ x ∷ xs → Headed ms x xs
-headed [] x xs e = let z : ◌≡◌ {A = ℕ} 0 1 = cc in absurd (omega arith)
+headed [] x xs e = cc
 headed (m ∷ ms) x xs e =
     let same : m.event ≡ x = cc in
     let rest : map bare ms ≡ xs = cc in
@@ -60,7 +60,7 @@ headed (m ∷ ms) x xs e =
 
 pub none_left : (ms : List Marked) → map bare ms ≡ [] → ms ≡ []
 none_left [] e = refl
-none_left (m ∷ ms) e = let z : ◌≡◌ {A = ℕ} 0 1 = cc in absurd (omega arith)
+none_left (m ∷ ms) e = cc
 
 -- loads that come to the same give the same
 loads_same : (phase phase' : Phase) (f f' : Flow) → ((l : Lengths) → loading l phase f ≡ loading l phase' f')

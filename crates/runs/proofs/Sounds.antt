@@ -15,12 +15,12 @@ use Rattle.document.specs.Questions.{bang}
 use Rattle.document.specs.Sound.{most_style_of, Names, ByKind, IsSoundVertex, SoundBook}
 
 pub all_nth : {X : Type 0} (P : X → Type 0) (xs : List X) (i : ℕ) (x : X) → AllByRecursion P xs → nth xs i ≡ Some x → P x
-all_nth P [] i x a e = let z : ◌≡◌ {A = ℕ} 0 1 = cc in absurd (omega arith)
+all_nth P [] i x a e = cc
 all_nth P (y ∷ ys) zero x a e = let same : y ≡ x = cc in subst P same a.0
 all_nth P (y ∷ ys) (suc i) x a e = all_nth P ys i x a.1 e
 
 pub all_numbered : {X : Type 0} (P : X → Type 0) (xs : List X) (v : ℕ) (x : X) → AllByRecursion P xs → numbered xs v ≡ Some x → P x
-all_numbered P xs zero x a e = let z : ◌≡◌ {A = ℕ} 0 1 = cc in absurd (omega arith)
+all_numbered P xs zero x a e = cc
 all_numbered P xs (suc i) x a e = all_nth P xs i x a e
 
 all_among : (P : ℕ → Type 0) (w : ℕ) (xs : List ℕ) → AllByRecursion P xs → among w xs ≡ true → P w
@@ -41,8 +41,8 @@ no_value Sequence value links h c = h
 no_value Mapping value links h c = h.0
 
 even_links : (k : NodeKind) (value links : List ℕ) → ByKind k value links → k ≡ Mapping → length links % 2 ≡ 0
-even_links Scalar value links h e = let z : ◌≡◌ {A = ℕ} 0 1 = cc in absurd (omega arith)
-even_links Sequence value links h e = let z : ◌≡◌ {A = ℕ} 0 1 = cc in absurd (omega arith)
+even_links Scalar value links h e = cc
+even_links Sequence value links h e = cc
 even_links Mapping value links h e = h.1
 
 style_within : (k : NodeKind) (style : ℕ) → style ≤ most_style_of k → style ≤ (table (start_kind k)).most_style

@@ -126,17 +126,17 @@ no_walk_empty {g} {d} {ts} {seen} e w = stuck w.steps refl refl refl
     no_node v x h = none_at v (rw e at h)
       where
         none_at : (v : ℕ) → numbered [] v ≡ Some x → ⊥
-        none_at zero h = let z : ◌≡◌ {A = ℕ} 0 1 = cc in omega arith
-        none_at (suc v) h = let z : ◌≡◌ {A = ℕ} 0 1 = cc in omega arith
+        none_at zero h = cc
+        none_at (suc v) h = cc
 
     step : {s s' : List Spot} {n n' : List ℕ} {t : Token} → Step g s n t s' n' → s ≡ spot 0 (1 ∷ []) ∷ [] → n ≡ [] → ⊥
     step (Step.met {v = v} {seen = n} a) p q = both_ways (among v n) (ap (among v) q) a
     step (Step.leaf {v = v} {x = x} a h c) p q = no_node v x h
     step (Step.into {v = v} {x = x} a h c) p q = no_node v x h
-    step Step.out p q = let z : ◌≡◌ {A = ℕ} 0 1 = cc in omega arith
+    step Step.out p q = cc
 
     stuck : {s s' : List Spot} {n n' : List ℕ} {us : List Token} → Steps g d s n s' n' us → s ≡ spot 0 (1 ∷ []) ∷ [] → n ≡ [] → s' ≡ spot 0 [] ∷ [] → ⊥
-    stuck Steps.none p q r = let z : ◌≡◌ {A = ℕ} 0 1 = cc in omega arith
+    stuck Steps.none p q r = cc
     stuck (Steps.more st l rest) p q r = step st p q
 
 dumps_same : {b : Book} {s : State} {xs ys : List Due} → Dumps b s xs → Dumps b s ys → xs ≡ ys
