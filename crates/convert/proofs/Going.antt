@@ -1,6 +1,6 @@
 -- Handing on, event by event.
-use Rattle.std.proofs.Common.{◌≡◌, ℕ, zero, suc, ◌+◌, ◌-◌, ◌<◌, ◌≤◌, true, List, [], ◌∷◌, ◌++◌, map, length, take, drop, Some, None, Ok, Err, Option, sym, refl, ap, ◌∙◌, subst, arith}
-use Rattle.std.proofs.lemmas.List.{append_assoc, append-nil, map-append, drop_all, length-drop}
+use Rattle.std.proofs.Common.{◌≡◌, ℕ, suc, ◌+◌, ◌-◌, ◌<◌, ◌≤◌, true, List, [], ◌∷◌, ◌++◌, map, length, get_or, take, drop, Some, None, Ok, Err, Option, sym, refl, ap, ◌∙◌, subst, arith}
+use Rattle.std.proofs.lemmas.List.{append_assoc, append-nil, map-append, length-drop, drop_more, take_more}
 use Rattle.std.proofs.lemmas.Bool.{both_ways}
 use Rattle.model.specs.declared.Fault.{Fault}
 use Rattle.model.specs.Events.{Ev, allowed}
@@ -34,24 +34,12 @@ pub record OneOn (n : ℕ) (es : List Marked) (m : Marked) (rest : List Marked) 
   pub inside : n < length es
 
 pub one_on : (n : ℕ) (es : List Marked) (m : Marked) (rest : List Marked) → drop n es ≡ m ∷ rest → OneOn n es m rest
-one_on n [] m rest h = absurd (nothing_left n)
-  where
-    empty : drop n [] ≡ m ∷ rest → ◌≡◌ {A = List Marked} [] (m ∷ rest)
-    empty e = sym (drop_all n [] (omega arith)) ∙ e
-
-    nothing_left : ℕ → ⊥
-    nothing_left k = let e = empty h in cc
-one_on zero (x ∷ es) m rest h =
-    let head : x ≡ m = cc in
-    record { dropped = cc; taken = ap (λ y. y ∷ []) head; inside = omega arith }
-one_on (suc n) (x ∷ es) m rest h =
-    let on = one_on n es m rest h in
-    let next : suc n + 1 ≡ suc (n + 1) = omega arith in
-    record {
-      dropped = ap (λ k. drop k (x ∷ es)) next ∙ on.dropped;
-      taken = ap (λ k. take k (x ∷ es)) next ∙ ap (λ l. x ∷ l) on.taken;
-      inside = omega (arith, on.inside);
-    }
+one_on n es m rest h =
+    let long : length es - n ≡ suc (length rest) = sym (length-drop n es) ∙ ap length h in
+    let inside : n < length es = omega arith in
+    let first = drop_more es n m inside in
+    let same : get_or es n m ≡ m = cc in
+    record { dropped = cc; taken = take_more es n m inside ∙ ap (λ x. take n es ++ x ∷ []) same; inside = inside }
 
 -- one event more of those to come
 pub ones_more : (n : ℕ) (f : Flow) (m : Marked) (rest : List Marked) → drop n f.coming.events ≡ m ∷ rest → first_ones (n + 1) f ≡ first_ones n f ++ m.event ∷ []

@@ -31,7 +31,7 @@ impl From<Refusal> for Unconverted {
     }
 }
 
-// How many events were handed on, and whether these were all.
+// How many events were handed on, and whether these were all: the count is told either way, so it is no part of the Result.
 #[derive(Clone, Copy, PartialEq, Eq, Debug)]
 pub struct Converted {
     pub events: usize,

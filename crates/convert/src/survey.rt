@@ -5,7 +5,7 @@ pub use crate::tally::{Survey, Unsurveyed};
 use crate::texts::Texts;
 use yaml::{Sink, Source};
 
-// Counts every event to come.
+// Counts every event to come, up to the source's end or fault. What was counted before an error stands.
 fn survey_each<S: Source, K: Sink>(
     source: &mut S,
     sink: &K,

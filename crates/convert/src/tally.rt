@@ -25,7 +25,7 @@ impl From<Fault> for Unsurveyed {
 #[derive(Clone, Copy, PartialEq, Eq, Debug)]
 pub struct Survey {
     pub events: usize,
-    // how many of each kind, in the order of the kinds' numbers
+    // how many of each kind, in the order of the kinds' numbers: a map from kinds is no plainer, since each kind has its count
     pub kinds: [usize; 10],
     // how many nodes have an anchor
     pub anchors: usize,

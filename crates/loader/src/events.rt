@@ -1,4 +1,4 @@
-// Events from any source, one by one.
+// Events from any source.
 ghost use Rattle.std.specs.Prelude.{◌≡◌};
 ghost use Rattle.loader.specs.Loads.{given};
 
