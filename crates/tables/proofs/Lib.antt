@@ -1,3 +1,4 @@
 pub mod Same
 pub mod Tops
 pub mod Clean
+pub mod Growing

@@ -1,6 +1,5 @@
-use Rattle.std.proofs.Common.{◌+◌, ◌++◌, length, take, refl, ap, ◌∙◌, sym, arith, rules}
-use Rattle.std.proofs.lemmas.List.{length-take, drop-drop}
-use Rattle.std.proofs.lemmas.Slice.{take-put_mid, drop-put_mid}
+use Rattle.std.proofs.Common.{◌++◌, length, take, refl, sym, ap, ◌∙◌, arith}
+use Rattle.std.proofs.lemmas.List.{length-take, take_all, drop-drop}
 use Rattle.tables.proofs.stack.Stack.extend.Goals as goal
 
 pub returns : goal.returns
@@ -9,12 +8,10 @@ returns g c =
     let xs = c.args.self.now.items.now in
     let es = c.args.entries.now in
     let held = length-take n xs in
-    let is = c.copy_from_slice.ensures.after in
-    let long = ap length is in
-    let top = n + length es in
+    let grown = c.put.ensures in
     record {
       there_was_room = omega arith;
-      holds = take-put_mid n _ xs _ top (omega arith) (omega arith) ∙ ap (λ ys. take n xs ++ ys) is;
-      past = drop-put_mid n _ xs _ top (omega arith) (omega arith) (omega arith) ∙ sym (drop-drop (length es) n xs);
-      over = record { table = refl; room = search rules };
+      holds = grown.front ∙ ap (λ ys. take n xs ++ ys) (take_all (length es) es (omega arith));
+      past = grown.rest ∙ sym (drop-drop (length es) n xs);
+      over = record { table = refl; room = grown.long };
     }
