@@ -1,6 +1,6 @@
 -- A test of each entry of a list.
 use Rattle.std.proofs.Common.{◌≡◌, ℕ, zero, suc, ◌+◌, ◌<◌, ◌≤◌, Bool, true, ◌&&◌, List, [], ◌∷◌, ◌++◌, length, get_or, take, Some, None, sym, refl, ap, ◌∙◌, add-one, arith}
-use Rattle.std.proofs.lemmas.List.{take_all, take_more}
+use Rattle.std.proofs.lemmas.List.{take_all}
 use Rattle.std.proofs.lemmas.Bool.{and_parts, and_from}
 use Rattle.model.specs.Graph.{nth, numbered}
 use Rattle.document.specs.declared.node.Node.{Node}
@@ -16,9 +16,6 @@ every_push p [] x all one = and_from (p x) true one refl
 every_push p (y ∷ ys) x all one =
     let both = and_parts (p y) (list_all p ys) all in
     and_from (p y) (list_all p (ys ++ x ∷ [])) both.0 (every_push p ys x both.1 one)
-
-pub every_more : {X : Type 0} (p : X → Bool) (xs : List X) (i : ℕ) (d : X) → i < length xs → list_all p (take i xs) ≡ true → p (get_or xs i d) ≡ true → list_all p (take (i + 1) xs) ≡ true
-every_more p xs i d h all one = ap (list_all p) (take_more xs i d h) ∙ every_push p (take i xs) (get_or xs i d) all one
 
 -- an entry below i passes if the first i do
 pub every_nth : {X : Type 0} (p : X → Bool) (xs : List X) (i j : ℕ) (x : X) → list_all p (take i xs) ≡ true → j < i → nth xs j ≡ Some x → p x ≡ true

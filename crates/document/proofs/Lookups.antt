@@ -1,12 +1,12 @@
 -- Reading entries by their numbers, and where the parts of right nodes lie.
 use Rattle.std.proofs.Common.{◌≡◌, ℕ, zero, suc, ◌+◌, ◌-◌, ◌%◌, ◌<◌, ◌≤◌, true, not, ◌&&◌, ◌||◌, eqb, leb, ◌⊎◌, List, [], ◌∷◌, map, length, get_or, drop, Some, None, Ok, Err, Option, Result, sym, refl, ap, ◌∙◌, subst, inl, inr, ⊎_elim, arith, Bor}
 use Rattle.std.specs.Slice.{IsItemAt}
-use Rattle.std.proofs.lemmas.List.{length-take-le, length-drop, get_or-take, get_or-drop}
+use Rattle.std.proofs.lemmas.List.{length-take-le, length-drop}
 use Rattle.std.proofs.lemmas.Bool.{and_parts, or_cases, leb-true, eqb-true, cases_Bool, cond-true, cond-false}
 use Rattle.std.specs.Result.{result_ok}
 use Rattle.model.specs.declared.NodeKind.{NodeKind}
 use Rattle.model.specs.declared.NoSuchKind.{NoSuchKind}
-use Rattle.model.specs.Graph.{Vertex, nth, numbered, follow, node_kind_at, NodeKindOf}
+use Rattle.model.specs.Graph.{nth, numbered, node_kind_at, NodeKindOf}
 use Rattle.model.specs.Events.{zero_free}
 use Rattle.document.specs.declared.node.Node.{Node}
 use Rattle.document.specs.declared.standing.Document.{Document}
@@ -34,9 +34,6 @@ numbered_some xs zero d some fits = absurd (omega arith)
 numbered_some xs (suc i) d some fits =
     let e : suc i - 1 ≡ i = omega arith in
     nth_at xs i d (omega arith) ∙ ap (λ j. Some (get_or xs j d)) (sym e)
-
-pub follow_at : (g : List Vertex) (k place : ℕ) (x : Vertex) → numbered g k ≡ Some x → follow g (Some k) place ≡ numbered x.links place
-follow_at g k place x e = rw e
 
 -- a record shows the vertex of its number
 shown : (d : Document) (k : ℕ) {r : Option Node} → r ≡ record_at d k → given (of_document d) r ≡ vertex_at d k
@@ -101,12 +98,6 @@ links_lie n links v e =
 -- a part that lies in its table
 pub length_part : {X : Type 0} (xs : List X) (place n : ℕ) → place + n ≤ length xs → length (part xs place n) ≡ n
 length_part xs place n h = length-take-le n (drop place xs) (simp length-drop (omega arith))
-
-pub numbered_part : {X : Type 0} (xs : List X) (place n k : ℕ) (d : X) → place + n ≤ length xs → 0 < k → k ≤ n → numbered (part xs place n) k ≡ Some (get_or xs (place + (k - 1)) d)
-numbered_part xs place n k d h some fits =
-    let long = length_part xs place n h in
-    numbered_some (part xs place n) k d some (omega arith)
-    ∙ ap Some (get_or-take n (drop place xs) (k - 1) d (omega arith) ∙ get_or-drop place xs (k - 1) d)
 
 -- the parts of a Document's nodes
 pub tag_within : (d : Document) (k : ℕ) (v : Node) → Some v ≡ record_at d k → v.tag_start + v.tag_length ≤ length d.text.now

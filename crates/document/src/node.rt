@@ -1,4 +1,5 @@
 // The record of a node, as it stands in a table. Its bytes are all told, so that an empty table is all zero.
+// A form this project keeps: integers alone, as C hands the record in; `kind` is read as a NodeKind.
 ghost use Rattle.std.specs.Prelude.{◌≡◌};
 ghost use Rattle.document.specs.Empty.{empty_node};
 

@@ -29,6 +29,7 @@ fn load_after<S: Source>(
 }
 
 // Loads the document after `skip` documents from packed events into the tables; tells what it is, or why there is none.
+// The C interface sets its parameters.
 #[unsafe(no_mangle)]
 pub extern "C" fn kelfhoam_load(
     input: &[u8],

@@ -20,6 +20,7 @@ fn tell_end(end: Result<(), Refusal>) -> (u32, LoadTold, CallTold) {
 }
 
 // Loads every document of some packed events and writes it again into `out`; tells how far it came.
+// The C interface sets its parameters.
 #[unsafe(no_mangle)]
 pub extern "C" fn kelfhoam_redump(
     input: &[u8],

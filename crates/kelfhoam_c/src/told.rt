@@ -1,4 +1,4 @@
-// What the calls tell, in records that C can read.
+// What the calls tell, in records that C can read: the C interface has integers and marks alone, and 0 where a field says nothing.
 ghost use Rattle.std.specs.Prelude.{◌≡◌};
 ghost use Rattle.kelfhoam_c.specs.Told.{load_number, loaded_told, refused_told, load_told, accepted_told, declined_told, called_told, no_document_told};
 

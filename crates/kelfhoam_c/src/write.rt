@@ -19,7 +19,7 @@ struct Lent<'a> {
     steps: &'a mut [Step],
 }
 
-// One call of a writer, by its letter: `o` opens, `c` closes, `e` dumps an empty Document, `d` the Document on what was handed in, where one stands on it.
+// One call of a writer, by its letter, as C gives it: `o` opens, `c` closes, `e` dumps an empty Document, `d` the Document on what was handed in, where one stands on it.
 fn call<K: Sink>(writer: &mut Writer<K>, letter: u8, lent: &mut Lent<'_>) -> CallTold
     ensures turned { Turned K.Sink.weight (lent_of lent.old) letter (state_of K.Sink.view writer.old) result (state_of K.Sink.view writer.new) }
     ensures same { lent_of lent.new ≡ lent_of lent.old }
@@ -45,6 +45,7 @@ fn call_all<K: Sink>(
 )
     ensures { MadeCalls K.Sink.weight (lent_of lent.old) calls.now (state_of K.Sink.view writer.old) (state_of K.Sink.view writer.new) told.old told.new }
 {
+    // By index: `told.iter_mut().zip(calls)` was tried, and a proof knows no entry of `told` after it.
     let made = calls.len().min(told.len());
     for (i, &letter) in calls[..made].iter().enumerate() {
         told[i] = call(writer, letter, lent);
@@ -52,6 +53,7 @@ fn call_all<K: Sink>(
 }
 
 // Makes a writer over `out` and calls it, one call a byte; tells what each call told, and how many bytes hold events.
+// The C interface sets its parameters.
 #[unsafe(no_mangle)]
 pub extern "C" fn kelfhoam_write<'x>(
     calls: &[u8],
