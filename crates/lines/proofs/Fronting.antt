@@ -1,11 +1,11 @@
 -- What stands at the front, from the event that the bytes seem to tell.
 use Rattle.std.proofs.Common.{◌≡◌, ℕ, ◌≤◌, true, false, List, length, sym, refl, ap, ◌∙◌, arith}
 use Rattle.std.proofs.lemmas.List.{length-take, nil_from_length}
-use Rattle.std.proofs.lemmas.Bool.{cond-true, cond-false, and_from}
+use Rattle.std.proofs.lemmas.Bool.{cond-true, cond-false}
 use Rattle.model.specs.declared.Cause.TheVariants.{NotALine}
-use Rattle.model.specs.Events.{Ev, allowed}
+use Rattle.model.specs.Events.{Ev}
 use Rattle.model.specs.Reading.{nothing, event, fault}
-use Rattle.lines.specs.Line.{line_of, guess, starts_with, is_line_of, front_for, line_front}
+use Rattle.lines.specs.Line.{line_of, guess, is_line_of, front_for, line_front}
 use Rattle.lines.specs.Lawful.{front_some, line_not_empty, lines_format}
 
 pub no_bytes : (bs : List ℕ) → length bs ≡ 0 → nothing ≡ line_front bs

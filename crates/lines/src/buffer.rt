@@ -4,6 +4,7 @@ ghost use Rattle.std.specs.Prelude.{◌≡◌, ◌^◌, ◌<◌, ◌≤◌, ◌�
 
 use std::marker::Model;
 
+// The bytes, and how many of them are the text.
 #[derive(Drop)]
 pub struct Buffer<const N: usize> {
     bytes: [u8; N],
@@ -32,6 +33,7 @@ impl<const N: usize> Buffer<N> {
         }
     }
 
+    // The text.
     pub fn as_slice(&self) -> &[u8]
         ensures value { result.now ≡ self.now }
         ensures fits { length result.now ≤ N }
@@ -39,6 +41,7 @@ impl<const N: usize> Buffer<N> {
         &self.bytes[..self.length]
     }
 
+    // Whether no further byte fits.
     pub fn is_full(&self) -> bool
         ensures value { IsTrue result ↔ (length self.now ≡ N) }
         ensures fits { length self.now ≤ N }
@@ -46,12 +49,14 @@ impl<const N: usize> Buffer<N> {
         self.length == N
     }
 
+    // Becomes a text of no bytes.
     pub fn clear(&mut self)
         ensures { self.new ≡ [] }
     {
         self.length = 0;
     }
 
+    // Puts a byte at the end.
     pub fn push(&mut self, byte: u8)
         requires { length self.old < N }
         ensures { self.new ≡ self.old ++ byte ∷ [] }

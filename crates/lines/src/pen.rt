@@ -20,6 +20,7 @@ pub trait Pen {
 
     ghost onward: { (s t u : Self) (xs ys : List ℕ) → wrote s xs t → wrote t ys u → wrote s (xs ++ ys) u };
 
+    // Takes some bytes that there is room for.
     fn put(&mut self, bytes: &[u8])
         requires { length bytes.now ≤ room self.old }
         ensures wrote { wrote self.old bytes.now self.new }

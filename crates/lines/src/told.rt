@@ -9,6 +9,7 @@ use model::EventKind;
 use yaml::event::{MAX_ANCHOR, MAX_TAG, MAX_VALUE};
 use yaml::{Cause, Event};
 
+// An event that owns its texts.
 #[derive(Drop)]
 pub struct Told {
     kind: EventKind,
