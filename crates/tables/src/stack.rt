@@ -6,7 +6,7 @@ ghost use Rattle.tables.specs.Growing.{Growing};
 use crate::empty::{Empty, clear};
 
 // Puts several entries into a table, from a place on. A loop over the table as a parameter, which compiles to a plain copy in place:
-// with copy_from_slice, tried, each few links cost a call, and deep documents loaded 8 in 100 slower.
+// with copy_from_slice, tried, each few links cost a call, and deep documents loaded 5 in 100 slower.
 fn put<T: Copy>(table: &mut [T], at: usize, entries: &[T])
     requires { at + length entries.now ≤ length table.old }
     ensures { Growing table.old table.new entries.now at (length entries.now) }
