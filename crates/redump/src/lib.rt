@@ -1,6 +1,10 @@
 // Loading every document of a source and dumping it into a sink: opens, dumps each, and closes at the stream's end.
 #![tactic(auto)]
 
+ghost use Rattle.std.specs.Prelude.{◌≡◌, IfErr, IsOk, MatchResult, Err};
+ghost use Rattle.redump.specs.declared.Refusal.TheVariants.{Load, Stand, Dump};
+ghost use Rattle.redump.specs.Counts.{handed_on, with_events, with_document, Counts};
+
 use composer::Tables;
 use dumper::{Refused, Writer};
 use loader::{Loaded, Loader};
@@ -18,7 +22,10 @@ pub struct Totals {
 
 impl Totals {
     // Counts the events that a call of the writer handed on, also where it was refused, and passes the refusal on.
-    fn count_call(&mut self, called: Result<usize, Refused>) -> Result<(), Refused> {
+    fn count_call(&mut self, called: Result<usize, Refused>) -> Result<(), Refused>
+        ensures counted { self.new ≡ with_events self.old (handed_on called) }
+        ensures passed { MatchResult result (λ u. IsOk called) (λ f. called ≡ Err f) }
+    {
         let events = match called {
             Ok(events) => events,
             Err(refused) => refused.events,
@@ -28,7 +35,9 @@ impl Totals {
     }
 
     // Counts a document that was loaded and dumped whole.
-    fn count_document(&mut self, loaded: &Loaded) {
+    fn count_document(&mut self, loaded: &Loaded)
+        ensures { self.new ≡ with_document self.old loaded.now }
+    {
         self.documents = self.documents.saturating_add(1);
         self.nodes = self.nodes.saturating_add(loaded.nodes);
         self.links = self.links.saturating_add(loaded.links);
@@ -48,6 +57,8 @@ pub enum Refusal {
 
 // A refused load.
 impl From<loader::Refusal> for Refusal {
+    ghost from_gives = { λ refusal r. r ≡ Load refusal };
+
     fn from(refusal: loader::Refusal) -> Refusal {
         Refusal::Load(refusal)
     }
@@ -55,6 +66,8 @@ impl From<loader::Refusal> for Refusal {
 
 // Tables on which no Document stands.
 impl From<document::Refusal> for Refusal {
+    ghost from_gives = { λ refusal r. r ≡ Stand refusal };
+
     fn from(refusal: document::Refusal) -> Refusal {
         Refusal::Stand(refusal)
     }
@@ -62,6 +75,8 @@ impl From<document::Refusal> for Refusal {
 
 // A refused call of the writer.
 impl From<Refused> for Refusal {
+    ghost from_gives = { λ refused r. r ≡ Dump refused };
+
     fn from(refused: Refused) -> Refusal {
         Refusal::Dump(refused)
     }
@@ -75,7 +90,9 @@ fn redump_documents<S: Source, K: Sink>(
     counting: &mut [Counted],
     steps: &mut [Step],
     totals: &mut Totals,
-) -> Result<(), Refusal> {
+) -> Result<(), Refusal>
+    ensures { IfErr result (Counts totals.new) }
+{
     for _ in 0..usize::MAX {
         let Some(loaded) = loader.load(tables)? else {
             return Ok(());
@@ -95,7 +112,9 @@ pub fn redump<S: Source + Drop, K: Sink + Drop>(
     counting: &mut [Counted],
     steps: &mut [Step],
     totals: &mut Totals,
-) -> Result<(), Refusal> {
+) -> Result<(), Refusal>
+    ensures { IfErr result (Counts totals.new) }
+{
     *totals = Totals::default();
     let mut loader = Loader::new(source);
     let mut writer = Writer::new(sink);
