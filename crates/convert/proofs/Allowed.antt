@@ -2,7 +2,7 @@
 use Rattle.std.proofs.Common.{◌≡◌, ◌≤◌, true, ◌&&◌, leb, ◌∷◌, map, length, sym, ap, ◌∙◌, arith}
 use Rattle.std.proofs.lemmas.Bool.{and_parts, leb-true}
 use Rattle.model.specs.declared.EventKind.{EventKind}
-use Rattle.model.specs.declared.EventKind.TheVariants.{StreamStart, StreamEnd, DocumentStart, DocumentEnd, Alias, Scalar, SequenceStart, SequenceEnd, MappingStart, MappingEnd}
+use Rattle.model.specs.declared.EventKind.TheVariants.{StreamStart}
 use Rattle.model.specs.Events.{Ev, Row, table, within, zero_free, allowed, all_allowed}
 use Rattle.model.specs.Reading.{Marked, bare}
 use Rattle.yaml.specs.Flow.{Flow, Sound, Came}
@@ -33,16 +33,10 @@ record Few (r : Row) : Type 0 where
   pub value : r.most_value ≤ 4096
 
 few : (k : EventKind) → Few (table k)
-few StreamStart = record { anchor = omega arith; tag = omega arith; value = omega arith }
-few StreamEnd = record { anchor = omega arith; tag = omega arith; value = omega arith }
-few DocumentStart = record { anchor = omega arith; tag = omega arith; value = omega arith }
-few DocumentEnd = record { anchor = omega arith; tag = omega arith; value = omega arith }
-few Alias = record { anchor = omega arith; tag = omega arith; value = omega arith }
-few Scalar = record { anchor = omega arith; tag = omega arith; value = omega arith }
-few SequenceStart = record { anchor = omega arith; tag = omega arith; value = omega arith }
-few SequenceEnd = record { anchor = omega arith; tag = omega arith; value = omega arith }
-few MappingStart = record { anchor = omega arith; tag = omega arith; value = omega arith }
-few MappingEnd = record { anchor = omega arith; tag = omega arith; value = omega arith }
+few k = elim k as (λ v. Few (table v)) [
+  StreamStart ↦ record { anchor = omega arith; tag = omega arith; value = omega arith }
+  | _ ↦ record { anchor = omega arith; tag = omega arith; value = omega arith }
+]
 
 -- no text is longer than the longest that is allowed
 pub record Short (e : Ev) : Type 0 where

@@ -4,7 +4,7 @@ use Rattle.std.proofs.lemmas.List.{length-map, get_or-set_same, get_or-set_other
 use Rattle.std.proofs.lemmas.Bool.{eq-eqb, ne_eqb, cases_eq}
 use Rattle.model.specs.declared.Fault.{Fault}
 use Rattle.model.specs.declared.EventKind.{EventKind}
-use Rattle.model.specs.declared.EventKind.TheVariants.{StreamStart, StreamEnd, DocumentStart, DocumentEnd, Alias, Scalar, SequenceStart, SequenceEnd, MappingStart, MappingEnd}
+use Rattle.model.specs.declared.EventKind.TheVariants.{StreamStart}
 use Rattle.model.specs.Events.{Ev, kind_number, allowed}
 use Rattle.model.specs.Reading.{Marked, bare}
 use Rattle.yaml.specs.Flow.{Flow, Came, Over}
@@ -28,16 +28,7 @@ pub given_size : (weight : Ev → ℕ) (e : Ev) → allowed e ≡ true → size_
 given_size weight e a = ap (λ b. cond b (Some (weight e)) None) a
 
 number_range : (k : EventKind) → (1 ≤ kind_number k) × (kind_number k ≤ 10)
-number_range StreamStart = (omega arith, omega arith)
-number_range StreamEnd = (omega arith, omega arith)
-number_range DocumentStart = (omega arith, omega arith)
-number_range DocumentEnd = (omega arith, omega arith)
-number_range Alias = (omega arith, omega arith)
-number_range Scalar = (omega arith, omega arith)
-number_range SequenceStart = (omega arith, omega arith)
-number_range SequenceEnd = (omega arith, omega arith)
-number_range MappingStart = (omega arith, omega arith)
-number_range MappingEnd = (omega arith, omega arith)
+number_range k = elim k as (λ v. (1 ≤ kind_number v) × (kind_number v ≤ 10)) [ StreamStart ↦ (omega arith, omega arith) | _ ↦ (omega arith, omega arith) ]
 
 kind_push : (k : EventKind) (es : List Ev) (e : Ev) → of_kind k (es ++ e ∷ []) ≡ of_kind k es + cond (eqb (kind_number e.kind) (kind_number k)) 1 0
 kind_push k [] e = omega arith

@@ -92,16 +92,7 @@ from_between n p f before (m ∷ ms) latest l opens is ok h =
     by_kind m.event.kind n p f before m ms l refl opens is (and_parts (allowed m.event) (all_allowed (map bare ms)) ok).1 h
 
 starts_stream : (k : EventKind) → is_stream_start k ≡ true → k ≡ StreamStart
-starts_stream StreamStart h = refl
-starts_stream StreamEnd h = cc
-starts_stream DocumentStart h = cc
-starts_stream DocumentEnd h = cc
-starts_stream Alias h = cc
-starts_stream Scalar h = cc
-starts_stream SequenceStart h = cc
-starts_stream SequenceEnd h = cc
-starts_stream MappingStart h = cc
-starts_stream MappingEnd h = cc
+starts_stream k = elim k as (λ v. is_stream_start v ≡ true → v ≡ StreamStart) [ StreamStart ↦ λ h. refl | _ ↦ λ h. cc ]
 
 from_fresh : (n : Lengths) (f : Flow) (ms : List Marked) (l : Loaded) → f.coming.events ≡ ms → all_allowed (map bare ms) ≡ true
     → (fresh (spaces_for n) f.coming.after f.latest ms).answer ≡ Ok (Some l) → GivenDocument Fresh f l (fresh (spaces_for n) f.coming.after f.latest ms)

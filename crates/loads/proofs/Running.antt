@@ -3,7 +3,7 @@ use Rattle.std.proofs.Common.{◌≡◌, ℕ, true, cond, List, [], ◌∷◌, �
 use Rattle.std.proofs.lemmas.List.{map-append}
 use Rattle.std.proofs.lemmas.Bool.{and_parts, and_from, cases_Bool}
 use Rattle.model.specs.declared.EventKind.{EventKind}
-use Rattle.model.specs.declared.EventKind.TheVariants.{StreamStart, StreamEnd, DocumentStart, DocumentEnd, Alias, Scalar, SequenceStart, SequenceEnd, MappingStart, MappingEnd}
+use Rattle.model.specs.declared.EventKind.TheVariants.{DocumentEnd}
 use Rattle.model.specs.declared.Fault.{Fault}
 use Rattle.model.specs.Events.{Ev, allowed, all_allowed}
 use Rattle.model.specs.Reading.{Marked, bare}
@@ -24,16 +24,7 @@ use Rattle.loads.proofs.Steps.{step_composes, blank_tidy}
 
 -- a document's end changes nothing
 document_end : (k : EventKind) → is_document_end k ≡ true → k ≡ DocumentEnd
-document_end StreamStart h = cc
-document_end StreamEnd h = cc
-document_end DocumentStart h = cc
-document_end DocumentEnd h = refl
-document_end Alias h = cc
-document_end Scalar h = cc
-document_end SequenceStart h = cc
-document_end SequenceEnd h = cc
-document_end MappingStart h = cc
-document_end MappingEnd h = cc
+document_end k = elim k as (λ v. is_document_end v ≡ true → v ≡ DocumentEnd) [ DocumentEnd ↦ λ h. refl | _ ↦ λ h. cc ]
 
 pub end_taking : (sp : Spaces) (m : Marked) (s : St) → is_document_end m.event.kind ≡ true
     → taking sp m s ≡ cond (ends_document s.frames s.nodes) (Ok s) (Err (NotInTurn m.start))
