@@ -57,7 +57,7 @@ impl Survey {
     }
 
     // Counts one event of this size.
-    pub fn add(&mut self, event: &Event<'_>, size: usize) -> Result<(), Unsurveyed>
+    pub(crate) fn add(&mut self, event: &Event<'_>, size: usize) -> Result<(), Unsurveyed>
         requires heavy { 1 ≤ size }
         ensures { Adds self.old (ev_of event.now) size result self.new }
     {
