@@ -125,10 +125,9 @@ impl<'a, T: Empty + Copy> Stack<'a, T> {
         if entries.len() > self.items.len() - held {
             return Err(Full);
         }
-        let top = held + entries.len();
         let items = &mut *self.items;
         put(items, held, entries);
-        self.count = top;
+        self.count = held + entries.len();
         Ok(())
     }
 
