@@ -34,7 +34,7 @@ record Few (r : Row) : Type 0 where
 
 few : (k : EventKind) → Few (table k)
 few k = elim k as (λ v. Few (table v)) [
-  StreamStart ↦ record { anchor = omega arith; tag = omega arith; value = omega arith }
+  | StreamStart ↦ record { anchor = omega arith; tag = omega arith; value = omega arith }
   | _ ↦ record { anchor = omega arith; tag = omega arith; value = omega arith }
 ]
 
