@@ -42,6 +42,7 @@ fn measured<T: Empty + Copy + Sample>(
     let mut sum: u32 = 0;
     let start = Instant::now(rt)?;
     for i in 0..rounds {
+        // by index, since which entry is written and read is what is measured; an empty table has none
         let at = i.wrapping_mul(stride);
         if !table.is_empty() {
             table[at % table.len()] = entry;
@@ -68,6 +69,7 @@ fn main(rt: HostRuntime) -> anyhow::Result<()> {
     let mut used = Node::none();
     used.first_link = 7;
     let stride = words.saturating_mul(37);
+    // one call a table, as each has entries of its own type
     let (n, a) = measured(&rt, nodes.as_mut_slice(), used, rounds, stride)?;
     let (l, b) = measured(&rt, links.as_mut_slice(), 7u32, rounds, stride)?;
     let (t, c) = measured(&rt, text.as_mut_slice(), 7u8, rounds, stride)?;

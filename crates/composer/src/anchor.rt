@@ -5,7 +5,7 @@ use tables::Empty;
 
 // A form this project keeps: a packed record, as C hands it in, so the name is bytes with a size beside them.
 #[repr(C)]
-#[derive(Clone, Copy)]
+#[derive(Clone, Copy, PartialEq, Eq, Debug)]
 pub struct Anchor {
     // the name, and zeros after it
     pub bytes: [u8; 64],
@@ -18,6 +18,7 @@ pub struct Anchor {
 impl Empty for Anchor {
     ghost empty = { empty_anchor };
 
+    // written out, as the library has no default for 64 bytes
     fn none() -> Anchor {
         Anchor {
             bytes: [0; 64],

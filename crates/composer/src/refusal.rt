@@ -53,7 +53,7 @@ impl Refusal {
         }
     }
 
-    // Where the refused event begins; all zero where no event was refused.
+    // Where the refused event begins; all zero where no event was refused, as its definition has it and C is told.
     pub fn mark(self) -> Mark
         ensures { result ≡ refusal_mark self }
     {

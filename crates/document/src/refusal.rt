@@ -31,7 +31,8 @@ impl Question {
     }
 }
 
-// The first question whose answer is no, and the number of the node that it was asked of: 0 for the first and the last question.
+// The first question whose answer is no, and the number of the node that it was asked of: 0 for the first and the last question, as a place that is
+// not named is 0 in every refusal, in what the definitions say and in what C is told.
 #[derive(Clone, Copy, PartialEq, Eq, Debug)]
 pub struct Refusal {
     pub question: Question,

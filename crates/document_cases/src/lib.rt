@@ -12,7 +12,7 @@ pub fn scalar() -> Node {
     }
 }
 
-// A collection of the kind with that many links from a place on.
+// A collection of the kind with that many links from a place on. Kinds are numbers here, as in the record, since wrong numbers are examples too.
 pub fn collection(kind: u8, first_link: u32, link_count: u32) -> Node {
     Node {
         kind,

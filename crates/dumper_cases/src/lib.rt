@@ -1,7 +1,7 @@
 // Small documents, and what writing them hands on and answers.
 #![tactic(auto)]
 
-use document::Node;
+use document::{Node, NodeKind};
 use dumper::Refused;
 use tables::Empty;
 
@@ -11,7 +11,7 @@ pub const TEXT: &[u8] = b"tag:yaml.org,2002:seqtag:yaml.org,2002:stra";
 // A sequence with that many links from a place on.
 pub fn sequence(first_link: u32, link_count: u32) -> Node {
     Node {
-        kind: 2,
+        kind: NodeKind::Sequence.into(),
         style: 1,
         tag_length: 21,
         first_link,
@@ -23,7 +23,7 @@ pub fn sequence(first_link: u32, link_count: u32) -> Node {
 // The scalar `a`.
 pub fn scalar() -> Node {
     Node {
-        kind: 1,
+        kind: NodeKind::Scalar.into(),
         style: 1,
         tag_start: 21,
         tag_length: 21,

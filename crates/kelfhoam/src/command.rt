@@ -14,11 +14,7 @@ pub enum Command<'a> {
         out: Option<&'a str>,
         file: Option<&'a str>,
     },
-    Redump {
-        to: Option<Form>,
-        out: Option<&'a str>,
-        file: Option<&'a str>,
-    },
+    Redump(Writing<'a>),
     Check {
         file: Option<&'a str>,
     },
@@ -29,10 +25,10 @@ pub enum Command<'a> {
 
 // What the words behind `convert` or `redump` may say.
 #[derive(Clone, Copy, Default)]
-struct Writing<'a> {
-    to: Option<Form>,
-    out: Option<&'a str>,
-    file: Option<&'a str>,
+pub struct Writing<'a> {
+    pub to: Option<Form>,
+    pub out: Option<&'a str>,
+    pub file: Option<&'a str>,
 }
 
 // A word that names a FILE: any but an option.
@@ -97,7 +93,7 @@ pub fn parse(arguments: &[String]) -> Result<Command<'_>> {
             })
         }
         "redump" => match parse_writing(words)? {
-            Some(Writing { to, out, file }) => Ok(Command::Redump { to, out, file }),
+            Some(writing) => Ok(Command::Redump(writing)),
             None => Ok(Command::Help),
         },
         "check" => Ok(Command::Check {

@@ -32,6 +32,7 @@ fn each_of<S: Source + Drop, F: FnMut(usize, &Loaded, &Tables<'_>) -> anyhow::Re
     let mut room = LoadRoom::new(rt.alloc())?;
     let mut tables = room.tables();
     let mut loader = Loader::new(source);
+    // a `for`, which ends by itself and counts the documents
     for number in 1..usize::MAX {
         match loader.load(&mut tables) {
             Ok(Some(loaded)) => document(number, &loaded, &tables)?,

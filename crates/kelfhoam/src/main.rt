@@ -13,7 +13,7 @@ mod refusing;
 mod showing;
 
 use checking::run_check;
-use command::{Command, USAGE, parse};
+use command::{Command, USAGE, Writing, parse};
 use converting::run_convert;
 use redumping::run_redump;
 use showing::run_show;
@@ -37,7 +37,7 @@ fn main(rt: HostRuntime) -> anyhow::Result<ExitCode> {
             Ok(ExitCode::SUCCESS)
         }
         Command::Convert { to, out, file } => run_convert(&rt, to, out, file),
-        Command::Redump { to, out, file } => run_redump(&rt, to, out, file),
+        Command::Redump(Writing { to, out, file }) => run_redump(&rt, to, out, file),
         Command::Check { file } => run_check(&rt, file),
         Command::Show { file } => run_show(&rt, file),
     }

@@ -33,6 +33,7 @@ fn meetings(heap: Global, d: &Document<'_>) -> Result<Vec<Met>, AllocError> {
     if let Some(root) = d.root() {
         bump(&mut met, root);
     }
+    // the numbers past the last node's have no links
     for node in 1..MAX_NODES as u32 + 1 {
         for child in d.links(node).unwrap_or(&[]) {
             bump(&mut met, *child);
@@ -141,6 +142,7 @@ pub fn outline_of(heap: Global, d: &Document<'_>) -> io::Result<Vec<u8>> {
         let Some(child) = d.child(node, place) else {
             continue;
         };
+        // two spaces for each open collection, which a width would tell no more plainly
         for _ in 0..outline.open.len().saturating_add(1) {
             write!(outline.text, "  ")?;
         }

@@ -1,5 +1,5 @@
 -- The lines are a format of events: what was written is read back, and only lines are read.
-use Rattle.std.specs.Prelude.{◌≡◌, ℕ, ◌+◌, ◌-◌, ◌*◌, ◌<◌, ◌≤◌, true, false, ◌&&◌, List, [], ◌∷◌, ◌++◌, length, take, drop, ◌==◌, ◌≢◌, nat_le, slice_index_or, refl}
+use Rattle.std.specs.Prelude.{◌≡◌, ℕ, ◌+◌, ◌-◌, ◌*◌, ◌<◌, ◌≤◌, Bool, true, false, ◌&&◌, List, [], ◌∷◌, ◌++◌, length, take, drop, ◌==◌, ◌≢◌, nat_le, slice_index_or, refl}
 use Rattle.std.proofs.Common.{arith, sym, ap, ap₂, ◌∙◌, ⊎_elim}
 use Rattle.std.proofs.lemmas.List.{append_assoc, length-append, take-append-drop, nil_from_length}
 use Rattle.std.proofs.lemmas.Bool.{cases_Bool, cond-true, cond-false, leb-true, eq-eqb, eqb-true, and_parts, and_from}
@@ -23,6 +23,15 @@ starts_take (x ∷ xs) [] h = cc
 starts_take (x ∷ xs) (y ∷ ys) h =
     let p = and_parts (x == y) (starts_with xs ys) h in
     ap₂ ◌∷◌ (sym (eqb-true x y p.0)) (starts_take xs ys p.1)
+
+and_assoc : (a b c : Bool) → (a && (b && c)) ≡ ((a && b) && c)
+and_assoc true b c = refl
+and_assoc false b c = refl
+
+pub starts_both : (xs ys bs : List ℕ) → starts_with (xs ++ ys) bs ≡ (starts_with xs bs && starts_with ys (drop (length xs) bs))
+starts_both [] ys bs = refl
+starts_both (x ∷ xs) ys [] = refl
+starts_both (x ∷ xs) ys (b ∷ bs) = ap (λ t. (x == b) && t) (starts_both xs ys bs) ∙ and_assoc (x == b) (starts_with xs bs) _
 
 -- what an allowed event has
 

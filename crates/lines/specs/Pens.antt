@@ -1,5 +1,5 @@
 -- What the pens that count and that compare the bytes of a line mean.
-use Rattle.std.specs.Prelude.{◌≡◌, ◌≢◌, ℕ, ◌+◌, ◌-◌, true, false, List, [], ◌++◌, length, Some, None, Option, refl}
+use Rattle.std.specs.Prelude.{◌≡◌, ◌≢◌, ℕ, ◌+◌, ◌-◌, ◌≤◌, true, false, List, [], ◌++◌, length, Some, None, Option, refl}
 use Rattle.std.specs.Borrow.{Bor}
 use Rattle.std.proofs.Common.{arith, sym, ap, ◌∙◌}
 use Rattle.std.proofs.lemmas.List.{append_assoc, append_cancel_left, length-append}
@@ -21,6 +21,9 @@ count_nothing s = omega arith
 
 pub count_onward : (s t u : Count) (xs ys : List ℕ) → Counted s xs t → Counted t ys u → Counted s (xs ++ ys) u
 count_onward s t u xs ys p q = omega (arith, length-append xs ys)
+
+pub count_falls : (s t : Count) (xs : List ℕ) → Counted s xs t → uncounted s ≤ uncounted t + length xs
+count_falls s t xs p = omega arith
 
 -- comparing
 
@@ -56,6 +59,9 @@ off_append xs ys (Some s) (Some t) (Some u) p q = p ∙ (ap (λ l. xs ++ l) q �
 
 pub compare_onward : (s t u : Compare) (xs ys : List ℕ) → Compared s xs t → Compared t ys u → Compared s (xs ++ ys) u
 compare_onward s t u xs ys p q = off_append xs ys s.left t.left u.left p q
+
+pub compare_falls : (s t : Compare) (xs : List ℕ) → Compared s xs t → unbounded s ≤ unbounded t + length xs
+compare_falls s t xs p = omega arith
 
 -- whether the bytes begin with the line of an event, which is allowed, and how long that is
 abbrev pub LineWithin : Ev → List ℕ → Option ℕ → Type 0

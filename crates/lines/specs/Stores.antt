@@ -1,5 +1,5 @@
 -- What the pen that stores the bytes of a line means.
-use Rattle.std.specs.Prelude.{◌≡◌, ℕ, ◌+◌, ◌-◌, List, [], ◌++◌, length, take, refl}
+use Rattle.std.specs.Prelude.{◌≡◌, ℕ, ◌+◌, ◌-◌, ◌≤◌, List, [], ◌++◌, length, take, refl}
 use Rattle.std.proofs.Common.{arith, sym, ap, ◌∙◌}
 use Rattle.std.proofs.lemmas.List.{append-nil, append_assoc, length-append}
 use Rattle.lines.specs.declared.writer.store.Store.{Store}
@@ -24,3 +24,6 @@ store_onward s t u xs ys p q = record {
   length_same = q.length_same ∙ p.length_same;
   same = q.same ∙ p.same;
 }
+
+pub store_falls : (s t : Store) (xs : List ℕ) → Stored s xs t → unwritten s ≤ unwritten t + length xs
+store_falls s t xs p = omega (arith, p.place, p.length_same)

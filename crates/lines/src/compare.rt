@@ -1,7 +1,7 @@
 // Whether some bytes begin with the line of an event, by writing it with a pen that compares.
 ghost use Rattle.std.specs.Prelude.{◌≡◌};
 ghost use Rattle.yaml.specs.Shapes.{ev_of};
-ghost use Rattle.lines.specs.Pens.{Compared, unbounded, compare_nothing, compare_onward, LineWithin};
+ghost use Rattle.lines.specs.Pens.{Compared, unbounded, compare_nothing, compare_onward, compare_falls, LineWithin};
 
 use crate::pen::{Pen, write_line};
 use yaml::Event;
@@ -22,11 +22,12 @@ impl<'a> Pen for Compare<'a> {
 
     ghost onward = { compare_onward };
 
+    ghost falls = { compare_falls };
+
     fn put(&mut self, bytes: &[u8]) {
-        self.left = match self.left {
-            Some(left) => left.strip_prefix(bytes),
-            None => None,
-        };
+        if let Some(left) = self.left {
+            self.left = left.strip_prefix(bytes);
+        }
     }
 }
 

@@ -2,7 +2,7 @@
 ghost use Rattle.std.specs.Prelude.{◌≡◌};
 ghost use Rattle.yaml.specs.Shapes.{ev_of};
 ghost use Rattle.yaml.specs.View.{size_of};
-ghost use Rattle.lines.specs.Pens.{Counted, uncounted, count_nothing, count_onward, weight_of};
+ghost use Rattle.lines.specs.Pens.{Counted, uncounted, count_nothing, count_onward, count_falls, weight_of};
 
 use crate::pen::{Pen, write_line};
 use yaml::Event;
@@ -22,6 +22,8 @@ impl Pen for Count {
     ghost nothing = { count_nothing };
 
     ghost onward = { count_onward };
+
+    ghost falls = { count_falls };
 
     fn put(&mut self, bytes: &[u8]) {
         let before = self.bytes;

@@ -16,6 +16,7 @@ pub fn read_front(rest: &[u8], told: &mut Told) -> Result<Option<usize>, Cause>
         return Ok(None);
     }
     told.read(rest)?;
+    // a match, since `ok_or`, `?` and `Some` again say no more plainly which answer is which
     match line_within(&told.event(), rest) {
         Some(size) => Ok(Some(size)),
         None => Err(Cause::NotALine),

@@ -21,6 +21,8 @@ pub trait Pen {
     ghost onward: { (s t u : Self) (xs ys : List ℕ) → wrote s xs t → wrote t ys u → wrote s (xs ++ ys) u };
 
     // Takes some bytes that there is room for.
+    ghost falls: { (s t : Self) (xs : List ℕ) → wrote s xs t → room s ≤ room t + length xs };
+
     fn put(&mut self, bytes: &[u8])
         requires { length bytes.now ≤ room self.old }
         ensures wrote { wrote self.old bytes.now self.new }

@@ -34,14 +34,7 @@ impl<'a> LineReader<'a> {
 fn hold(held: &mut Option<Told>, told: &Told)
     ensures { held.new ≡ Some told.now }
 {
-    match held {
-        Some(held) => held.copy_from(told),
-        None => {
-            let mut first = Told::default();
-            first.copy_from(told);
-            *held = Some(first);
-        }
-    }
+    held.get_or_insert_with(Told::default).copy_from(told);
 }
 
 impl<'a> Source for LineReader<'a> {

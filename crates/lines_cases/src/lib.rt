@@ -4,14 +4,18 @@
 use lines::{LineReader, LineWriter};
 use yaml::{Event, EventKind, Sink, Source, Text};
 
-// How many events come of an input, up to 20, and the number and the place of the fault after them, if there is one.
-pub fn reading(bytes: &[u8]) -> (usize, Option<(u8, u64)>) {
-    let mut reader = LineReader::new(bytes);
+// How many events come of a source, up to 20, and the number and the place of the fault after them, if there is one.
+pub fn events_of<S: Source + Drop>(mut source: S) -> (usize, Option<(u8, u64)>) {
     let events = (0..20)
-        .take_while(|_| matches!(reader.next_event(), Ok(Some(_))))
+        .take_while(|_| matches!(source.next_event(), Ok(Some(_))))
         .count();
-    let fault = reader.next_event().err();
+    let fault = source.next_event().err();
     (events, fault.map(|f| (f.cause.number(), f.place)))
+}
+
+// The same of some lines.
+pub fn reading(bytes: &[u8]) -> (usize, Option<(u8, u64)>) {
+    events_of(LineReader::new(bytes))
 }
 
 // Whether the first line is refused.
@@ -19,7 +23,7 @@ pub fn refused(bytes: &[u8]) -> bool {
     reading(bytes) == (0, Some((15, 0)))
 }
 
-// An event with an anchor and a value.
+// An event with an anchor and a value. Five parameters, as each example tells all five; a record with its fields' names would be no plainer.
 pub fn event<'a>(
     kind: EventKind,
     style: u8,

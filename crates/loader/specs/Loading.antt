@@ -59,6 +59,7 @@ kept s = record { nodes = s.nodes; links = s.links; text = s.text; anchors = [];
 abbrev pub complete : Marked → Marked → St → Flow → Outcome
 complete start end s f = record { answer = Ok (Some (counted start end s)); holds = kept s; phase = Between; flow = f }
 
+-- the document's end alone; told kind by kind, as the theorems read it
 abbrev pub is_document_end : EventKind → Bool
 is_document_end StreamStart = false
 is_document_end StreamEnd = false

@@ -94,6 +94,7 @@ pub fn summary(answer: Result<Option<Loaded>, Refusal>) -> Came {
         Err(refusal) => {
             let first = match refusal {
                 Refusal::AnchorAgain { first, .. } => first.index,
+                // the expected values tell 0 where there is no other anchor
                 _ => 0,
             };
             Err((refusal.number(), refusal.mark().index, first))
@@ -147,7 +148,9 @@ pub fn loads(input: &Input, sizes: Sizes, n: usize) -> Left {
     let text = &mut text[0..sizes.text.min(66000)];
     let anchors = &mut anchors[0..sizes.anchors.min(4200)];
     let waiting = &mut waiting[0..sizes.waiting.min(16500)];
-    let mut loader = Loader::new(PackedReader::new(input.bytes.as_slice()));
+    let mut reader = PackedReader::new(input.bytes.as_slice());
+    // a lent source is a source
+    let mut loader = Loader::new(&mut reader);
     let mut came = None;
     let mut stands = false;
     {
@@ -169,10 +172,7 @@ pub fn loads(input: &Input, sizes: Sizes, n: usize) -> Left {
         }
     }
     let full_nodes = nodes.iter().filter(|node| **node != none).count();
-    let full_anchors = anchors
-        .iter()
-        .filter(|a| a.size != 0 || a.node != 0)
-        .count();
+    let full_anchors = anchors.iter().filter(|anchor| **anchor != bare).count();
     let used = [
         full_nodes,
         used(links),

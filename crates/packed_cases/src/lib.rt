@@ -3,22 +3,14 @@
 
 use convert::{Unconverted, hand_all};
 use lines::LineReader;
+use lines_cases::events_of;
 use packed::{PackedReader, PackedWriter};
 use yaml::event::allowed;
 use yaml::{Event, EventKind, Refusal, Sink, Source, Text};
 
 // How many events come of an input, and the number and the place of the fault after them, if there is one.
 pub fn reading(bytes: &[u8]) -> (usize, Option<(u8, u64)>) {
-    let mut reader = PackedReader::new(bytes);
-    // a count of the events asked for, and no index: a source is no iterator
-    for i in 0..20 {
-        match reader.next_event() {
-            Ok(Some(_)) => {}
-            Ok(None) => return (i, None),
-            Err(fault) => return (i, Some((fault.cause.number(), fault.place))),
-        }
-    }
-    (20, None)
+    events_of(PackedReader::new(bytes))
 }
 
 // An event of a kind, with no style, flags or texts.

@@ -93,6 +93,7 @@ fn redump_documents<S: Source, K: Sink>(
 ) -> Result<(), Refusal>
     ensures { IfErr result (Counts totals.new) }
 {
+    // a `for`, which ends by itself; a `while let` is no plainer, since it wants a proof that the source ends
     for _ in 0..usize::MAX {
         let Some(loaded) = loader.load(tables)? else {
             return Ok(());

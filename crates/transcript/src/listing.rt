@@ -4,7 +4,7 @@ use crate::telling::{Desk, tell_list};
 use std::alloc::Global;
 use std::io::{self, Write};
 
-// The name before a colon, and what follows it; a line without a colon has no name.
+// The name before a colon, and what follows it. A line without a colon has no name, and one of no bytes is none, so that it is a slice and no option.
 fn named(line: &[u8]) -> (&[u8], &[u8]) {
     match line.iter().position(|b| *b == b':') {
         Some(end) => line.split_at(end),

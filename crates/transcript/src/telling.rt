@@ -117,10 +117,8 @@ fn tell_document<K: Sink>(
 ) -> io::Result<()> {
     tell_loaded(out, loaded)?;
     let d = loaded.document(tables).unwrap_or(Document::empty());
-    for number in 1..MAX_NODES as u32 + 1 {
-        if d.kind(number).is_none() {
-            break;
-        }
+    let numbers = 1..MAX_NODES as u32 + 1;
+    for number in numbers.take_while(|number| d.kind(*number).is_some()) {
         tell_node(out, &d, number)?;
     }
     match writer.dump(d, dump.counting.as_mut_slice(), dump.steps.as_mut_slice()) {
@@ -139,6 +137,7 @@ fn tell_loads<K: Sink>(
 ) -> io::Result<()> {
     let mut tables = load.tables();
     let mut loader = Loader::new(PackedReader::new(list));
+    // a `for`, which ends by itself: no list has more documents than bytes
     for _ in 0..list.len().saturating_add(1) {
         match loader.load(&mut tables) {
             Ok(Some(loaded)) => tell_document(out, &tables, &loaded, writer, dump)?,

@@ -33,6 +33,7 @@ first_same g v w (a ∷ front) (b ∷ other) xs ys none nil all every e =
 one_unnamed : {g : List Vertex} {ts us : List Token} {v w : ℕ} → FirstUnnamed g ts v → FirstUnnamed g us w → ts ≡ us → v ≡ w
 one_unnamed {g} {ts} {us} {v} {w} a b e = first_same g v w a.before b.before a.rest b.rest a.unnamed b.unnamed a.others b.others (sym a.split ∙ e ∙ b.split)
 
+-- pair by pair: each two answers exclude one another for a reason of their own
 by_answers : (g : List Vertex) (counts : ℕ) (steps : List Step) (t t' : List Counted) (s s' : List Step) (a b : Result ℕ Unplanned) → Plans g counts steps a t s → Plans g counts steps b t' s' → a ≡ b
 by_answers g counts steps t t' s s' (Err NoNodes) (Err NoNodes) x y = refl
 by_answers g counts steps t t' s s' (Err NoNodes) (Err TooFewCounts) x y = absurd (omega (arith, x, y.some))

@@ -12,7 +12,7 @@ fn last_digit(n: u32) -> u8
     b'0' + (n % 10) as u8
 }
 
-// `id` and the number with at least three digits.
+// `id` and the number with at least three digits. Two literals, which show where each digit stands; a loop over the digits would be no plainer.
 pub fn generate_anchor(number: u32) -> AnchorName
     requires { number < 10000 }
     ensures { name_in result ≡ name number }

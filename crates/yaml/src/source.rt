@@ -17,6 +17,7 @@ pub trait Source {
         ensures { Gave (flow self.old) result (flow self.new) };
 
     // A byte of the latest event's texts; absent past the text's end, and before any event.
+    // A form this project keeps: a source tells the lengths of an event's texts and gives them byte by byte, so that it may hold them in any way.
     fn byte(&self, text: Text, i: usize) -> Option<u8>
         ensures { result ≡ byte_of (flow self.now) text i };
 }

@@ -43,9 +43,8 @@ impl<'a> Tables<'a> {
             children: 0,
             mapping: matches!(kind, NodeKind::Mapping),
         };
-        if self.frames.push(frame).is_err() {
-            return Err(Refusal::TooDeep { at: start });
-        }
-        Ok(())
+        self.frames
+            .push(frame)
+            .map_err(|_| Refusal::TooDeep { at: start })
     }
 }

@@ -31,7 +31,7 @@ impl<'a> Tables<'a> {
         }
     }
 
-    // How much of each table is used.
+    // How much of each table is used: a line for each, as each has a limit of its own.
     pub fn spaces(&self) -> Spaces
         ensures { result ≡ spaces_of self.now }
     {

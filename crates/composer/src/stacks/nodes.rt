@@ -13,7 +13,7 @@ use document::Node;
 use model::{Mark, NodeKind};
 use tables::Stack;
 
-// Where the value begins; a collection has none.
+// Where the value begins; a collection has none. Apart from `value_for`, as the value is asked before its place is known.
 fn value_place(kind: NodeKind, place: u32) -> u32
     ensures { result ≡ value_place kind place }
 {

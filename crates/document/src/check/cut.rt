@@ -14,11 +14,11 @@ pub struct Cut<'a> {
     pub nodes: &'a [Node],
     pub links: &'a [u32],
     pub text: &'a [u8],
-    ghost few: { length nodes.now ≤ 4096 },
+    pub ghost few: { length nodes.now ≤ 4096 },
 }
 
 impl<'a> Cut<'a> {
-    // The first question to which a node's answer is no.
+    // The first question to which a node's answer is no: one after the other, since the order in which they are asked is what is told.
     fn fault_of(&self, node: &Node) -> Option<Question>
         ensures { Examined (length self.now.nodes.now) self.now.links.now self.now.text.now node.now result }
     {

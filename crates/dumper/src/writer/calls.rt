@@ -68,6 +68,7 @@ impl<S: Sink> Writer<S> {
     }
 
     // Writes a Document, which is used up. One without nodes starts and ends the stream. Both tables are empty afterwards.
+    // They are two parameters, as C lends them apart and each has a promise of its own.
     pub fn dump(
         &mut self,
         d: Document<'_>,

@@ -16,7 +16,7 @@ pub struct Store<'a> {
 }
 
 impl<'a> Pen for Store<'a> {
-    ghost use Rattle.lines.specs.Stores.{Stored, unwritten, store_nothing, store_onward};
+    ghost use Rattle.lines.specs.Stores.{Stored, unwritten, store_nothing, store_onward, store_falls};
 
     ghost wrote = { Stored };
 
@@ -25,6 +25,8 @@ impl<'a> Pen for Store<'a> {
     ghost nothing = { store_nothing };
 
     ghost onward = { store_onward };
+
+    ghost falls = { store_falls };
 
     fn put(&mut self, bytes: &[u8]) {
         let end = self.at + bytes.len();
