@@ -1,5 +1,5 @@
 // What a survey tells, counted event by event.
-ghost use Rattle.std.specs.Prelude.{◌≡◌, ℕ, ◌≤◌, length, slice_index};
+ghost use Rattle.std.specs.Prelude.{◌≡◌, ℕ, ◌-◌, ◌≤◌, length, slice_index};
 ghost use Rattle.convert.specs.declared.tally.Unsurveyed.TheVariants.{Faulty};
 
 use yaml::{Event, EventKind, Fault};
@@ -40,6 +40,7 @@ pub struct Survey {
 }
 
 impl Survey {
+    ghost use Rattle.model.specs.Events.{kind_number};
     ghost use Rattle.yaml.specs.Shapes.{ev_of};
     ghost use Rattle.convert.specs.Surveys.{Adds, Untouched};
 
@@ -54,6 +55,14 @@ impl Survey {
             bytes: 0,
             stop: Ok(()),
         }
+    }
+
+    // How many events of a kind are to come.
+    pub fn of_kind(&self, kind: EventKind) -> usize
+        ensures { result ≡ slice_index self.now.kinds (kind_number kind - 1) }
+    {
+        let place = usize::from(u8::from(kind)) - 1;
+        self.kinds[place]
     }
 
     // Counts one event of this size.

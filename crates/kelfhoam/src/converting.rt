@@ -8,6 +8,7 @@ use packed::{PackedReader, PackedWriter};
 use std::alloc::{AllocError, Global};
 use std::fmt;
 use std::process::ExitCode;
+use yaml::EventKind;
 
 // Why nothing was converted.
 #[derive(Drop)]
@@ -109,7 +110,7 @@ impl<'a> fmt::Display for Summary<'a> {
             writeln!(f, "  {kind:<14} {count}")?;
         }
         writeln!(f, "anchors        {}", survey.anchors)?;
-        writeln!(f, "aliases        {}", survey.kinds[4])?;
+        writeln!(f, "aliases        {}", survey.of_kind(EventKind::Alias))?;
         writeln!(f, "bytes in       {}", self.bytes_in)?;
         writeln!(f, "bytes out      {}", self.output.bytes.len())
     }

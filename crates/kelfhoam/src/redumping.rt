@@ -12,7 +12,7 @@ use room::{DumpRoom, LoadRoom};
 use std::alloc::{AllocError, Global};
 use std::fmt;
 use std::process::ExitCode;
-use yaml::{Sink, Source};
+use yaml::{EventKind, Sink, Source};
 
 // Why nothing was redumped.
 #[derive(Drop)]
@@ -172,7 +172,7 @@ impl<'a> fmt::Display for Summary<'a> {
         writeln!(f, "nodes          {}", totals.nodes)?;
         writeln!(f, "links          {}", totals.links)?;
         writeln!(f, "anchors given  {}", survey.anchors)?;
-        writeln!(f, "aliases        {}", survey.kinds[4])?;
+        writeln!(f, "aliases        {}", survey.of_kind(EventKind::Alias))?;
         writeln!(f, "events         {}", totals.events)?;
         writeln!(f, "bytes in       {}", self.bytes_in)?;
         writeln!(f, "bytes out      {}", self.redumped.bytes.len())

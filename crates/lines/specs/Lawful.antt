@@ -63,16 +63,10 @@ pub record Most (r : Row) : Type 0 where
   pub value : r.most_value ≤ 4096
 
 pub most : (k : EventKind) → Most (table k)
-most StreamStart = record { style = omega arith; flags = omega arith; anchor = omega arith; tag = omega arith; value = omega arith }
-most StreamEnd = record { style = omega arith; flags = omega arith; anchor = omega arith; tag = omega arith; value = omega arith }
-most DocumentStart = record { style = omega arith; flags = omega arith; anchor = omega arith; tag = omega arith; value = omega arith }
-most DocumentEnd = record { style = omega arith; flags = omega arith; anchor = omega arith; tag = omega arith; value = omega arith }
-most Alias = record { style = omega arith; flags = omega arith; anchor = omega arith; tag = omega arith; value = omega arith }
-most Scalar = record { style = omega arith; flags = omega arith; anchor = omega arith; tag = omega arith; value = omega arith }
-most SequenceStart = record { style = omega arith; flags = omega arith; anchor = omega arith; tag = omega arith; value = omega arith }
-most SequenceEnd = record { style = omega arith; flags = omega arith; anchor = omega arith; tag = omega arith; value = omega arith }
-most MappingStart = record { style = omega arith; flags = omega arith; anchor = omega arith; tag = omega arith; value = omega arith }
-most MappingEnd = record { style = omega arith; flags = omega arith; anchor = omega arith; tag = omega arith; value = omega arith }
+most k = elim k as (λ v. Most (table v)) [
+  | StreamStart ↦ record { style = omega arith; flags = omega arith; anchor = omega arith; tag = omega arith; value = omega arith }
+  | _ ↦ record { style = omega arith; flags = omega arith; anchor = omega arith; tag = omega arith; value = omega arith }
+]
 
 -- style and flags are a digit each
 pub small_digits : (e : Ev) → allowed e ≡ true → (e.style ≤ 9) × (e.flags ≤ 9)
@@ -81,32 +75,20 @@ small_digits e h = let l = lengths e h in let m = most e.kind in (omega arith, o
 -- how long a line is
 
 pub length_word : (k : EventKind) → length (word k) ≡ 4
-length_word StreamStart = refl
-length_word StreamEnd = refl
-length_word DocumentStart = refl
-length_word DocumentEnd = refl
-length_word Alias = refl
-length_word Scalar = refl
-length_word SequenceStart = refl
-length_word SequenceEnd = refl
-length_word MappingStart = refl
-length_word MappingEnd = refl
+length_word k = elim k as (λ v. length (word v) ≡ 4) [
+  | StreamStart ↦ refl
+  | _ ↦ refl
+]
 
 length_optional : (mark : ℕ) (text : List ℕ) → length (optional mark text) ≤ 2 + 3 * length text
 length_optional mark [] = omega arith
 length_optional mark (b ∷ text) = omega (arith, length_escape (b ∷ text))
 
 length_value : (k : EventKind) (text : List ℕ) → length (value_part k text) ≤ 2 + 3 * length text
-length_value StreamStart text = omega arith
-length_value StreamEnd text = omega arith
-length_value DocumentStart text = omega arith
-length_value DocumentEnd text = omega arith
-length_value Alias text = omega arith
-length_value Scalar text = omega (arith, length_escape text)
-length_value SequenceStart text = omega arith
-length_value SequenceEnd text = omega arith
-length_value MappingStart text = omega arith
-length_value MappingEnd text = omega arith
+length_value k text = elim k as (λ v. length (value_part v text) ≤ 2 + 3 * length text) [
+  | Scalar ↦ omega (arith, length_escape text)
+  | _ ↦ omega arith
+]
 
 pub length_line : (e : Ev) → length (line_of e) ≡ 9 + length (optional 38 e.anchor) + length (optional 60 e.tag) + length (value_part e.kind e.value)
 unfolding line_of

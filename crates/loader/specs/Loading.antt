@@ -104,6 +104,7 @@ between sp after latest [] = over latest after
 between sp after latest (m ∷ ms) = begun m.event.kind sp after m ms
 
 -- the stream's start comes first
+-- likewise
 abbrev pub is_stream_start : EventKind → Bool
 is_stream_start StreamStart = true
 is_stream_start StreamEnd = false
