@@ -142,11 +142,10 @@ pub fn outline_of(heap: Global, d: &Document<'_>) -> io::Result<Vec<u8>> {
         let Some(child) = d.child(node, place) else {
             continue;
         };
-        // two spaces for each open collection, which a width would tell no more plainly
-        for _ in 0..outline.open.len().saturating_add(1) {
+        for _ in &outline.open {
             write!(outline.text, "  ")?;
         }
-        write!(outline.text, "{}", child_mark(d, node, place))?;
+        write!(outline.text, "  {}", child_mark(d, node, place))?;
         outline.open.push(Open {
             node,
             place: place.saturating_add(1),
