@@ -13,6 +13,7 @@ pub record FitsRow (r : Row) (e : Ev) : Type 0 where
   pub tag : length e.tag ≤ r.most_tag
   pub value : length e.value ≤ r.most_value
 
+-- test by test, in the order in which they are asked: each is the first part of what is left of them
 pub fits_row : (e : Ev) → allowed e ≡ true → FitsRow (table e.kind) e
 fits_row e a =
     let r = table e.kind in
