@@ -1,14 +1,12 @@
 // Nodes: one more, with its texts.
-ghost use Rattle.std.specs.Prelude.{◌≡◌};
+ghost use Rattle.std.specs.Prelude.{◌≡◌, ◌≤◌, length};
 ghost use Rattle.model.specs.Graph.{numbered};
 ghost use Rattle.tables.specs.Stacks.{contents};
-ghost use Rattle.composer.specs.Holding.{Does, state_of, spaces_of, marked, Relinked};
-ghost use Rattle.composer.specs.Steps.{noding, value_place, value_for};
+ghost use Rattle.composer.specs.Holding.{Does, state_of, spaces_of, Relinked};
+ghost use Rattle.composer.specs.Steps.{noding_with, value_place, value_for};
 
 use super::Tables;
-use crate::placed::Placed;
 use crate::refusal::Refusal;
-use crate::tags::resolve;
 use document::Node;
 use model::{Mark, NodeKind};
 use tables::Stack;
@@ -57,25 +55,32 @@ pub fn link_node(nodes: &mut Stack<'_, Node>, number: u32, first: u32, count: u3
 }
 
 impl<'a> Tables<'a> {
-    // 25 and 26: a node of that kind with the tag and the value of its event.
-    pub fn load_node(&mut self, kind: NodeKind, placed: &Placed<'_>) -> Result<(), Refusal>
-        ensures { Does (noding (spaces_of self.old) kind (marked placed.now) (state_of self.old)) self.old result self.new }
+    // 25 and 26: a node with this tag and this value. Seven words, each a field of the node that is made; a struct for them would be that node again.
+    pub fn load_node(
+        &mut self,
+        kind: NodeKind,
+        style: u8,
+        tag: &[u8],
+        value: &[u8],
+        start: Mark,
+        end: Mark,
+    ) -> Result<(), Refusal>
+        requires tag { length tag.now ≤ 256 }
+        requires value { length value.now ≤ 4096 }
+        ensures { Does (noding_with (spaces_of self.old) kind style tag.now value.now start end (state_of self.old)) self.old result self.new }
     {
-        let tag = resolve(kind, placed.event.tag);
-        let value = value_for(kind, placed.event.value);
-        let at = placed.start;
         let spaces = self.spaces();
         if self.nodes.len() >= spaces.nodes {
-            return Err(Refusal::NodesFull { at });
+            return Err(Refusal::NodesFull { at: start });
         }
         let place = self.text.len();
         let value_start = place + tag.len();
         if value_start + value.len() > spaces.text {
-            return Err(Refusal::TextFull { at });
+            return Err(Refusal::TextFull { at: start });
         }
         let node = Node {
             kind: u8::from(kind),
-            style: placed.event.style,
+            style,
             tag_length: tag.len() as u16,
             value_length: value.len() as u16,
             filler: 0,
@@ -83,8 +88,8 @@ impl<'a> Tables<'a> {
             value_start: value_place(kind, value_start as u32),
             first_link: 0,
             link_count: 0,
-            start: at,
-            end: placed.end,
+            start,
+            end,
         };
         self.text.extend(tag).unwrap();
         self.text.extend(value).unwrap();

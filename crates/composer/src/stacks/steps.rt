@@ -4,9 +4,11 @@ ghost use Rattle.composer.specs.Holding.{Does, state_of, spaces_of, marked};
 ghost use Rattle.composer.specs.Steps.{taking, aliasing, naming_adding, node_step, start_step, in_turn};
 
 use super::Tables;
+use super::nodes::value_for;
 use crate::names::find;
 use crate::placed::Placed;
 use crate::refusal::Refusal;
+use crate::tags::resolve;
 use model::{EventKind, NodeKind};
 
 impl<'a> Tables<'a> {
@@ -22,7 +24,10 @@ impl<'a> Tables<'a> {
     fn load_any(&mut self, kind: NodeKind, placed: &Placed<'_>) -> Result<(), Refusal>
         ensures { Does (node_step (spaces_of self.old) kind (marked placed.now) (state_of self.old)) self.old result self.new }
     {
-        self.load_node(kind, placed)?;
+        let event = &placed.event;
+        let tag = resolve(kind, event.tag);
+        let value = value_for(kind, event.value);
+        self.load_node(kind, event.style, tag, value, placed.start, placed.end)?;
         self.name_and_add(placed)
     }
 
