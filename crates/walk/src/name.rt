@@ -1,6 +1,9 @@
 // An anchor as it is written.
 ghost use Rattle.std.specs.Prelude.{◌≡◌, ◌≤◌, []};
 
+// How one is written.
+pub use crate::anchor::generate_anchor;
+
 #[derive(Clone, Copy, Debug)]
 pub struct AnchorName {
     pub(crate) bytes: [u8; 6],
