@@ -46,10 +46,13 @@ module _ {weight : Ev → ℕ} where
     went_then {u} {k} {ys} b =
         let c₁ = a.counted in
         let c₂ = b.counted in
+        let f₁ = a.few in
+        let f₂ = b.few in
         record {
           took = took_then weight xs ys a.took b.took;
           spoilt = b.spoilt ∙ a.spoilt;
           counted = omega (arith, length-append xs ys);
+          few = omega arith;
         }
 
     broke_then : {u : State} {k node size space : ℕ} {ys : List Due} → Broke weight t m ys node size space u k → Broke weight s n (xs ++ ys) node size space u k
@@ -154,14 +157,14 @@ module _ {weight : Ev → ℕ} {v v' : View} {n m : ℕ} where
 
   nothing_goes : (o c p : Bool) {r : Result (Unit {0}) Refused} → Hands weight v n [] r v' m → Goes weight (state_by o c p v) n [] r (state_by o c p v') m
   nothing_goes o c p (all_in e a) =
-      went e (record { took = record { taken = a.taken; room = a.room; opened = or_none o false refl; closed = or_none c false refl }; spoilt = refl; counted = a.counted })
+      went e (record { took = record { taken = a.taken; room = a.room; opened = or_none o false refl; closed = or_none c false refl }; spoilt = refl; counted = a.counted; few = a.few })
   nothing_goes o c p (some_in e s) = absurd (no_cut s.done s.next_one s.left (sym s.split))
 
   pub start_goes : (o o' c p : Bool) {r : Result (Unit {0}) Refused} → o' ≡ (o || is_ok r) → Hands weight v n (once_due StreamStart o) r v' m
       → Goes weight (state_by o c p v) n (start_due o) r (state_by o' c p v') m
   start_goes true o' c p {r} is h = subst (λ q. Goes weight (state_by true c p v) n [] r (state_by q c p v') m) (sym is) (nothing_goes true c p h)
   start_goes false o' c p is (all_in e a) =
-      went e (record { took = record { taken = a.taken; room = a.room; opened = is ∙ ap is_ok e; closed = or_none c false refl }; spoilt = refl; counted = a.counted })
+      went e (record { took = record { taken = a.taken; room = a.room; opened = is ∙ ap is_ok e; closed = or_none c false refl }; spoilt = refl; counted = a.counted; few = a.few })
   start_goes false o' c p {r} is (some_in e s) =
       subst (λ q. Goes weight (state_by false c p v) n (start_due false) r (state_by q c p v') m) (sym (is ∙ ap is_ok e)) (broke e (one_broke false c p s))
 
@@ -169,7 +172,7 @@ module _ {weight : Ev → ℕ} {v v' : View} {n m : ℕ} where
       → Goes weight (state_by o c p v) n (end_due c) r (state_by o c' p v') m
   end_goes o true c' p {r} is h = subst (λ q. Goes weight (state_by o true p v) n [] r (state_by o q p v') m) (sym is) (nothing_goes o true p h)
   end_goes o false c' p is (all_in e a) =
-      went e (record { took = record { taken = a.taken; room = a.room; opened = or_none o false refl; closed = is ∙ ap is_ok e }; spoilt = refl; counted = a.counted })
+      went e (record { took = record { taken = a.taken; room = a.room; opened = or_none o false refl; closed = is ∙ ap is_ok e }; spoilt = refl; counted = a.counted; few = a.few })
   end_goes o false c' p {r} is (some_in e s) =
       subst (λ q. Goes weight (state_by o false p v) n (end_due false) r (state_by o q p v') m) (sym (is ∙ ap is_ok e)) (broke e (one_broke o false p s))
 
@@ -185,6 +188,7 @@ module _ {weight : Ev → ℕ} {v v' : View} {n m : ℕ} where
       };
       spoilt = refl;
       counted = a.counted;
+      few = a.few;
     }
 
     book_broke : (o c p q : Bool) {node size space : ℕ} → p ≡ false → q ≡ ltb n m → SomeIn weight v n (book_dues b ts) node size space v' m → Broke weight (state_by o c p v) n (book_dues b ts) node size space (state_by o c q v') m

@@ -1,11 +1,11 @@
 -- Handing on some events and then others.
-use Rattle.std.proofs.Common.{◌≡◌, ℕ, Bool, true, false, List, [], ◌∷◌, ◌++◌, Ok, Err, Decides, Result, sym, refl, ap, ◌∙◌, subst, arith}
+use Rattle.std.proofs.Common.{◌≡◌, ℕ, ◌+◌, Bool, true, false, List, [], ◌∷◌, ◌++◌, Ok, Err, Decides, Result, sym, refl, ap, ◌∙◌, subst, arith}
 use Rattle.std.proofs.lemmas.List.{append_assoc, append-nil, length-append}
 use Rattle.std.proofs.lemmas.Bool.{both_ways}
 use Rattle.model.specs.Events.{Ev, allowed}
 use Rattle.yaml.specs.declared.sink.Refusal.{Refusal}
 use Rattle.yaml.specs.declared.sink.Refusal.TheVariants.{NotAllowed, NoSpace}
-use Rattle.yaml.specs.View.{View, Full, Took}
+use Rattle.yaml.specs.View.{View, Weighs, Accepted, Full, Took}
 use Rattle.serial.specs.Serialize.{same_bytes}
 use Rattle.serial.proofs.Standing.{bytes_same, bytes_differ}
 use Rattle.runs.specs.Writer.{Due, events}
@@ -15,6 +15,13 @@ use Rattle.dumper.specs.declared.answer.Refused.{Refused}
 use Rattle.dumper.specs.Handing.{AllIn, SomeIn, Hands, all_in, some_in}
 
 module _ {weight : Ev → ℕ} {v : View} {n : ℕ} where
+  -- one event
+  pub one_in : {d : Due} {v' : View} → Weighs weight → Accepted weight v d.event v' → AllIn weight v n (d ∷ []) v' (n + 1)
+  one_in {d} {v'} weighs a =
+      let heavy = (weighs d.event a.was_allowed).0 in
+      let fallen = a.fallen in
+      record { taken = a.appended; room = omega arith; counted = refl; few = omega arith }
+
   -- one event that does not fit
   one_out : {d : Due} {v' : View} {size space : ℕ} → Full weight v d.event size space v' → SomeIn weight v n (d ∷ []) d.node size space v' n
   one_out {d} {v'} {size} {space} full =
@@ -27,7 +34,7 @@ module _ {weight : Ev → ℕ} {v : View} {n : ℕ} where
         next_one = d;
         left = [];
         split = refl;
-        all = record { taken = ap (λ x. x.taken) same ∙ sym (append-nil v.taken); room = omega arith; counted = omega arith };
+        all = record { taken = ap (λ x. x.taken) same ∙ sym (append-nil v.taken); room = omega arith; counted = omega arith; few = omega arith };
         node_told = refl;
         size_told = full.size_told;
         space_told = omega arith;
@@ -42,10 +49,13 @@ module _ {weight : Ev → ℕ} {v : View} {n : ℕ} where
         let r₂ = b.room in
         let c₁ = a.counted in
         let c₂ = b.counted in
+        let f₁ = a.few in
+        let f₂ = b.few in
         record {
           taken = b.taken ∙ ap (λ es. es ++ events ys) a.taken ∙ append_assoc v.taken (events xs) (events ys) ∙ ap (λ es. v.taken ++ es) (sym (events_append xs ys));
           room = omega (arith, total_append weight xs ys);
           counted = omega (arith, length-append xs ys);
+          few = omega arith;
         }
 
     pub some_then : {ys : List Due} {node size space : ℕ} {v₂ : View} {k : ℕ} → SomeIn weight v₁ m ys node size space v₂ k → SomeIn weight v n (xs ++ ys) node size space v₂ k

@@ -1,21 +1,25 @@
 -- How far some events that are due went into a sink, and how they are counted.
-use Rattle.std.specs.Prelude.{◌≡◌, ℕ, ◌+◌, ◌<◌, Bool, cond, List, [], ◌∷◌, ◌++◌, length, Ok, Err, Result}
+use Rattle.std.specs.Prelude.{◌≡◌, ℕ, ◌+◌, ◌^◌, ◌<◌, ◌≤◌, Bool, cond, List, [], ◌∷◌, ◌++◌, length, Ok, Err, Result}
 use Rattle.model.specs.declared.EventKind.{EventKind}
 use Rattle.model.specs.Events.{Ev}
 use Rattle.serial.specs.Serialize.{plain}
 use Rattle.yaml.specs.declared.sink.Refusal.TheVariants.{NoSpace}
-use Rattle.yaml.specs.declared.sink.Sink.{Ghosts}
 use Rattle.yaml.specs.View.{View}
 use Rattle.runs.specs.Writer.{Due, due_of, events, total}
 use Rattle.dumper.specs.declared.answer.Why.TheVariants.{Sink}
 use Rattle.dumper.specs.declared.answer.Refused.{Refused}
 use Rattle.dumper.specs.declared.outlet.Outlet.{Outlet}
 
+-- so many events were counted that the counter holds even if each byte of the room is an event
+abbrev pub Countable : ℕ → View → Type 0
+Countable n v = n + v.room < 2 ^ 64
+
 -- all of them were taken
 pub record AllIn (weight : Ev → ℕ) (v : View) (n : ℕ) (ds : List Due) (v' : View) (m : ℕ) : Type 0 where
   pub taken : v'.taken ≡ v.taken ++ events ds
   pub room : v'.room + total weight ds ≡ v.room
   pub counted : m ≡ n + length ds
+  pub few : m + v'.room ≤ n + v.room
 
 -- those before the first that does not fit were
 pub record SomeIn (weight : Ev → ℕ) (v : View) (n : ℕ) (ds : List Due) (node size space : ℕ) (v' : View) (m : ℕ) : Type 0 where
@@ -35,8 +39,8 @@ pub data Hands (weight : Ev → ℕ) (v : View) (n : ℕ) (ds : List Due) (r : R
   some_in : {node size space : ℕ} → r ≡ Err (record { events = m; why = Sink node (NoSpace size space) }) → SomeIn weight v n ds node size space v' m → Hands weight v n ds r v' m
 
 -- the same of an outlet before and after
-abbrev pub Handed : {S : Type 0} {k : Ghosts S} → Outlet S k → List Due → Result (Unit {0}) Refused → Outlet S k → Type 0
-Handed {k = k} o ds r o' = Hands k.weight (k.view o.sink) o.events ds r (k.view o'.sink) o'.events
+abbrev pub Handed : {S : Type 0} → (Ev → ℕ) → (S → View) → Outlet S → List Due → Result (Unit {0}) Refused → Outlet S → Type 0
+Handed weight view o ds r o' = Hands weight (view o.sink) o.events ds r (view o'.sink) o'.events
 
 -- an event of the stream is due where it was not handed on before
 abbrev pub once_due : EventKind → Bool → List Due

@@ -1,11 +1,10 @@
 -- A writer as the law over whole runs has it, and how far the events of a call went.
-use Rattle.std.specs.Prelude.{◌≡◌, ℕ, ◌+◌, ◌<◌, Bool, ◌||◌, List, ◌∷◌, ◌++◌, length, Ok, Err, Result}
+use Rattle.std.specs.Prelude.{◌≡◌, ℕ, ◌+◌, ◌<◌, ◌≤◌, Bool, ◌||◌, List, ◌∷◌, ◌++◌, length, Ok, Err, Result}
 use Rattle.model.specs.declared.EventKind.TheVariants.{DocumentStart}
 use Rattle.model.specs.Events.{Ev}
 use Rattle.yaml.specs.declared.sink.Refusal.TheVariants.{NoSpace}
 use Rattle.yaml.specs.View.{View}
 use Rattle.runs.specs.Writer.{State, Due, has_kind, Took}
-use Rattle.yaml.specs.declared.sink.Sink.{Ghosts}
 use Rattle.dumper.specs.declared.answer.Why.TheVariants.{Sink}
 use Rattle.dumper.specs.declared.answer.Refused.{Refused}
 use Rattle.dumper.specs.declared.writer.Writer.{Writer}
@@ -13,7 +12,7 @@ use Rattle.dumper.specs.declared.writer.Writer.{Writer}
 abbrev pub state_by : Bool → Bool → Bool → View → State
 state_by opened closed spoilt v = record { opened = opened; closed = closed; spoilt = spoilt; taken = v.taken; room = v.room }
 
-abbrev pub state_of : {S : Type 0} {k : Ghosts S} → (S → View) → Writer S k → State
+abbrev pub state_of : {S : Type 0} → (S → View) → Writer S → State
 state_of view w = state_by w.opened w.closed w.spoilt (view w.outlet.sink)
 
 -- all that was due was taken
@@ -21,6 +20,7 @@ pub record Went (weight : Ev → ℕ) (s : State) (n : ℕ) (ds : List Due) (t :
   pub took : Took weight s ds t
   pub spoilt : t.spoilt ≡ s.spoilt
   pub counted : m ≡ n + length ds
+  pub few : m + t.room ≤ n + s.room
 
 -- what was due before the first that does not fit was taken; after a document's start the writer is spoilt
 pub record Broke (weight : Ev → ℕ) (s : State) (n : ℕ) (ds : List Due) (node size space : ℕ) (t : State) (m : ℕ) : Type 0 where
@@ -42,5 +42,5 @@ pub data Goes (weight : Ev → ℕ) (s : State) (n : ℕ) (ds : List Due) (r : R
   broke : {node size space : ℕ} → r ≡ Err (record { events = m; why = Sink node (NoSpace size space) }) → Broke weight s n ds node size space t m → Goes weight s n ds r t m
 
 -- the same of a writer before and after
-abbrev pub Wrote : {S : Type 0} {k : Ghosts S} → Writer S k → List Due → Result (Unit {0}) Refused → Writer S k → Type 0
-Wrote {k = k} w ds r w' = Goes k.weight (state_of k.view w) w.outlet.events ds r (state_of k.view w') w'.outlet.events
+abbrev pub Wrote : {S : Type 0} → (Ev → ℕ) → (S → View) → Writer S → List Due → Result (Unit {0}) Refused → Writer S → Type 0
+Wrote weight view w ds r w' = Goes weight (state_of view w) w.outlet.events ds r (state_of view w') w'.outlet.events

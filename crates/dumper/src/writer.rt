@@ -2,7 +2,6 @@
 ghost use Rattle.std.specs.Prelude.{◌≡◌};
 
 use crate::outlet::Outlet;
-use yaml::Sink;
 
 mod calls;
 mod inner;
@@ -10,7 +9,7 @@ mod inner;
 // The three flags stay apart, as the law over whole runs has them: each call asks one or two of them, and one enum of four states is no plainer.
 // It is opened once its stream start is taken, closed once its stream end is, and spoilt where a document that began never ended.
 #[derive(Drop)]
-pub struct Writer<S: Sink> {
+pub struct Writer<S> {
     outlet: Outlet<S>,
     opened: bool,
     closed: bool,

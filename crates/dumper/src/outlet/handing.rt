@@ -4,7 +4,7 @@ ghost use Rattle.model.specs.Events.{allowed};
 ghost use Rattle.serial.specs.Serialize.{plain as plain_event};
 ghost use Rattle.yaml.specs.Shapes.{ev_of};
 ghost use Rattle.runs.specs.Writer.{due_of};
-ghost use Rattle.dumper.specs.Handing.{once_due, Handed};
+ghost use Rattle.dumper.specs.Handing.{once_due, Countable, Handed};
 
 use super::Outlet;
 use crate::answer::{Refused, Why};
@@ -16,8 +16,6 @@ impl<S: Sink> Outlet<S> {
     pub(crate) fn new(sink: S) -> Outlet<S>
         ensures { result.sink ≡ sink }
     {
-        // the space is a number of the machine's, so the events that fill it can be counted
-        let _space = sink.space();
         Outlet { sink, events: 0 }
     }
 
@@ -39,14 +37,18 @@ impl<S: Sink> Outlet<S> {
     pub(crate) fn count_anew(&mut self)
         ensures none { self.new.events ≡ 0 }
         ensures sink { self.new.sink ≡ self.old.sink }
+        ensures few { Countable self.new.events (S.Sink.view self.new.sink) }
     {
+        // the space is a number of the machine's, so the events that fill it can be counted
+        let _space = self.sink.space();
         self.events = 0;
     }
 
     // Hands on an event of the stream, where it was not before.
     pub(crate) fn hand_once(&mut self, kind: EventKind, done: &mut bool) -> Result<(), Refused>
-        requires { allowed (plain_event kind 0) ≡ true }
-        ensures handed { Handed self.old (once_due kind done.old) result self.new }
+        requires allowed { allowed (plain_event kind 0) ≡ true }
+        requires few { Countable self.old.events (S.Sink.view self.old.sink) }
+        ensures handed { Handed S.Sink.weight S.Sink.view self.old (once_due kind done.old) result self.new }
         ensures done { done.new ≡ (done.old || is_ok result) }
     {
         if !*done {
@@ -58,8 +60,9 @@ impl<S: Sink> Outlet<S> {
 
     // Hands on an event of a node, and counts it where it is taken.
     pub(crate) fn hand(&mut self, node: u32, e: &Event<'_>) -> Result<(), Refused>
-        requires { allowed (ev_of e.now) ≡ true }
-        ensures { Handed self.old (due_of node (ev_of e.now) ∷ []) result self.new }
+        requires allowed { allowed (ev_of e.now) ≡ true }
+        requires few { Countable self.old.events (S.Sink.view self.old.sink) }
+        ensures { Handed S.Sink.weight S.Sink.view self.old (due_of node (ev_of e.now) ∷ []) result self.new }
     {
         match self.sink.take(e) {
             Ok(()) => {

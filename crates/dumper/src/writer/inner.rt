@@ -2,6 +2,7 @@
 ghost use Rattle.std.specs.Prelude.{◌≡◌, false, ◌++◌};
 ghost use Rattle.document.specs.Books.{book_of};
 ghost use Rattle.runs.specs.Writer.{start_due, end_due, book_dues};
+ghost use Rattle.dumper.specs.Handing.{Countable};
 ghost use Rattle.dumper.specs.Steps.{tokens_of};
 ghost use Rattle.dumper.specs.States.{Wrote};
 
@@ -13,7 +14,8 @@ use yaml::{EventKind, Sink};
 impl<S: Sink> Writer<S> {
     // Starts the stream where it is not opened.
     pub(crate) fn start(&mut self) -> Result<(), Refused>
-        ensures { Wrote self.old (start_due self.old.opened) result self.new }
+        requires { Countable self.old.outlet.events (S.Sink.view self.old.outlet.sink) }
+        ensures { Wrote S.Sink.weight S.Sink.view self.old (start_due self.old.opened) result self.new }
     {
         self.outlet
             .hand_once(EventKind::StreamStart, &mut self.opened)
@@ -21,7 +23,8 @@ impl<S: Sink> Writer<S> {
 
     // Ends the stream where it is not closed.
     pub(crate) fn finish(&mut self) -> Result<(), Refused>
-        ensures { Wrote self.old (end_due self.old.closed) result self.new }
+        requires { Countable self.old.outlet.events (S.Sink.view self.old.outlet.sink) }
+        ensures { Wrote S.Sink.weight S.Sink.view self.old (end_due self.old.closed) result self.new }
     {
         self.outlet
             .hand_once(EventKind::StreamEnd, &mut self.closed)
@@ -29,7 +32,8 @@ impl<S: Sink> Writer<S> {
 
     // Starts and ends the stream, as far as need be.
     pub(crate) fn write_nothing(&mut self) -> Result<(), Refused>
-        ensures { Wrote self.old (start_due self.old.opened ++ end_due self.old.closed) result self.new }
+        requires { Countable self.old.outlet.events (S.Sink.view self.old.outlet.sink) }
+        ensures { Wrote S.Sink.weight S.Sink.view self.old (start_due self.old.opened ++ end_due self.old.closed) result self.new }
     {
         self.start()?;
         self.finish()
@@ -37,8 +41,9 @@ impl<S: Sink> Writer<S> {
 
     // Starts the stream if need be, and hands on the planned Document. Where it breaks off after its start the writer is spoilt.
     pub(crate) fn write(&mut self, planned: &Planned<'_, '_>) -> Result<(), Refused>
-        requires { self.old.spoilt ≡ false }
-        ensures { Wrote self.old (start_due self.old.opened ++ book_dues (book_of planned.now.d.now) (tokens_of planned.now.steps.now)) result self.new }
+        requires unspoilt { self.old.spoilt ≡ false }
+        requires few { Countable self.old.outlet.events (S.Sink.view self.old.outlet.sink) }
+        ensures { Wrote S.Sink.weight S.Sink.view self.old (start_due self.old.opened ++ book_dues (book_of planned.now.d.now) (tokens_of planned.now.steps.now)) result self.new }
     {
         self.start()?;
         let begun = self.outlet.events();

@@ -12,7 +12,10 @@ use Rattle.dumper.proofs.outlet.Outlet.dump_steps.Goals as goal
 pub dump_step-requires : goal.dump_step-requires
 dump_step-requires g c =
     let graph = (book_of c.args.planned.now.d.now).nodes in
-    step_allowed (anchor_of graph) graph c.args.planned.now.steps.now c.loop-step.step-index empty_step (omega arith) (walk_allowed (book_of c.args.planned.now.d.now) (tokens_of c.args.planned.now.steps.now) c.args.planned.now.allowed)
+    record {
+      allowed = step_allowed (anchor_of graph) graph c.args.planned.now.steps.now c.loop-step.step-index empty_step (omega arith) (walk_allowed (book_of c.args.planned.now.d.now) (tokens_of c.args.planned.now.steps.now) c.args.planned.now.allowed);
+      few = omega (arith, c.loop-step.invariant.few, c.requires);
+    }
 
 pub returns-in_err-dump_step : goal.returns-in_err-dump_step
 returns-in_err-dump_step g c =

@@ -15,7 +15,7 @@ returns-then-is_err g c =
     let mid = c.start.new.self in
     let first = went_of c.in_ok-start.ensures in
     goes_then first (start_no_document c.args.self.now.opened)
-    (book_cut (book_of c.args.planned.now.d.now) (tokens_of c.args.planned.now.steps.now) mid.opened mid.closed mid.spoilt _ (sym c.is_err.ensures.value ∙ c.if-is_err.true) (first.spoilt ∙ c.requires)
+    (book_cut (book_of c.args.planned.now.d.now) (tokens_of c.args.planned.now.steps.now) mid.opened mid.closed mid.spoilt _ (sym c.is_err.ensures.value ∙ c.if-is_err.true) (first.spoilt ∙ c.requires.unspoilt)
     (λ i. ltb (c.events-begun.ensures i) (c.events.ensures i)) c.dump_document-written.ensures)
 
 pub returns-else-is_err : goal.returns-else-is_err
