@@ -3,3 +3,4 @@ pub mod Allowed
 pub mod Together
 pub mod Going
 pub mod Counting
+pub mod Few

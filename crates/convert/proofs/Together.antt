@@ -1,5 +1,6 @@
 -- An event put together from its head and its copied texts is the one that came.
-use Rattle.std.proofs.Common.{◌≡◌, ℕ, ◌≤◌, List, length, take, sym, ap, ◌∙◌, subst, arith}
+use Rattle.std.proofs.Common.{◌≡◌, ℕ, ◌≤◌, List, length, take, Some, sym, ap, ◌∙◌, subst, arith}
+use Rattle.model.specs.Events.{Ev}
 use Rattle.model.specs.Reading.{Marked}
 use Rattle.yaml.specs.declared.event.Head.{Head}
 use Rattle.yaml.specs.declared.event.Text.{Text}
@@ -9,9 +10,20 @@ use Rattle.yaml.specs.Flow.{Flow, Sound, Came}
 use Rattle.convert.specs.Copies.{latest_text}
 use Rattle.convert.proofs.Allowed.{allowed_short, came_allowed}
 
+-- the event of a head and of buffers at whose fronts its texts stand
+abbrev put_together : Head → List ℕ → List ℕ → List ℕ → Ev
+put_together h a t v = record { kind = h.kind; style = h.style; flags = h.flags; anchor = take h.anchor a; tag = take h.tag t; value = take h.value v }
+
+text_of_latest : (f : Flow) (e : Ev) (t : Text) → f.latest ≡ Some e → latest_text f t ≡ text_of t e
+text_of_latest f e t l = ap (λ o. latest_text (record { latest = o; coming = f.coming }) t) l
+
+-- a latest text that was copied is the event's
+copied : (f : Flow) (e : Ev) (t : Text) (n : ℕ) (out : List ℕ) → f.latest ≡ Some e → take n out ≡ latest_text f t → take n out ≡ text_of t e
+copied f e t n out l h = h ∙ text_of_latest f e t l
+
 module _ (f f' : Flow) (m : Marked) (came : Came f m f') where
   came_text : (t : Text) → latest_text f' t ≡ text_of t m.event
-  came_text t = ap (λ o. latest_text (record { latest = o; coming = f'.coming }) t) came.latest
+  came_text t = text_of_latest f' m.event t came.latest
 
   -- the texts that a head tells, by their lengths: there is room for each
   pub record Told (h : Head) : Type 0 where
@@ -40,13 +52,13 @@ module _ (f f' : Flow) (m : Marked) (came : Came f m f') where
   -- the event that came is the one that is put together
   pub together : (h : Head) (a t v : List ℕ) → h ≡ head_of m
       → take h.anchor a ≡ latest_text f' Anchor → take h.tag t ≡ latest_text f' Tag → take h.value v ≡ latest_text f' Value
-      → Came f (record { event = record { kind = h.kind; style = h.style; flags = h.flags; anchor = take h.anchor a; tag = take h.tag t; value = take h.value v }; start = h.start; end = h.end }) f'
+      → Came f (record { event = put_together h a t v; start = h.start; end = h.end }) f'
   together h a t v told pa pt pv =
       let back = sym told in
-      let qa = sym (pa ∙ came_text Anchor) in
-      let qt = sym (pt ∙ came_text Tag) in
-      let qv = sym (pv ∙ came_text Value) in
-      let same : m ≡ record { event = record { kind = h.kind; style = h.style; flags = h.flags; anchor = take h.anchor a; tag = take h.tag t; value = take h.value v }; start = h.start; end = h.end } =
+      let qa = sym (copied f' m.event Anchor h.anchor a came.latest pa) in
+      let qt = sym (copied f' m.event Tag h.tag t came.latest pt) in
+      let qv = sym (copied f' m.event Value h.value v came.latest pv) in
+      let same : m ≡ record { event = put_together h a t v; start = h.start; end = h.end } =
       λ i. record {
         event = record { kind = (back i).kind; style = (back i).style; flags = (back i).flags; anchor = qa i; tag = qt i; value = qv i };
         start = (back i).start;

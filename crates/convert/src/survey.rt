@@ -1,6 +1,7 @@
 // Surveying a source: how many events of which kind are to come, and how many bytes a sink would need for them. Nothing is handed on.
 ghost use Rattle.convert.specs.Surveys.{Untouched, Surveyed};
 
+use crate::tally::Tally;
 pub use crate::tally::{Survey, Unsurveyed};
 use crate::texts::Texts;
 use yaml::{Sink, Source};
@@ -9,15 +10,15 @@ use yaml::{Sink, Source};
 fn survey_each<S: Source, K: Sink>(
     source: &mut S,
     sink: &K,
-    survey: &mut Survey,
+    tally: &mut Tally,
 ) -> Result<(), Unsurveyed>
-    requires none_yet { Untouched survey.old }
-    ensures { Surveyed K.Sink.weight (S.Source.flow source.old) (record survey.new { stop = result }) (S.Source.flow source.new) }
+    requires none_yet { Untouched tally.old.survey }
+    ensures { Surveyed K.Sink.weight (S.Source.flow source.old) (record tally.new.survey { stop = result }) (S.Source.flow source.new) }
 {
     let mut texts = Texts::new();
     while let Some(whole) = texts.next_of(source)? {
         let size = sink.size(&whole.event).unwrap();
-        survey.add(&whole.event, usize::from(size))?;
+        tally.add(&whole.event, usize::from(size))?;
     }
     Ok(())
 }
@@ -26,7 +27,10 @@ fn survey_each<S: Source, K: Sink>(
 pub fn look_over<S: Source, K: Sink>(source: &mut S, sink: &K) -> Survey
     ensures { Surveyed K.Sink.weight (S.Source.flow source.old) result (S.Source.flow source.new) }
 {
-    let mut survey = Survey::new();
-    survey.stop = survey_each(source, sink, &mut survey);
-    survey
+    let mut tally = Tally::new();
+    let stop = survey_each(source, sink, &mut tally);
+    Survey {
+        stop,
+        ..tally.survey
+    }
 }

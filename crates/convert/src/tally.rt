@@ -1,5 +1,7 @@
 // What a survey tells, counted event by event.
-ghost use Rattle.std.specs.Prelude.{◌≡◌, ℕ, ◌-◌, ◌≤◌, length, slice_index};
+ghost use Rattle.std.specs.Prelude.{◌≡◌, ◌-◌, ◌≤◌, length, slice_index};
+ghost use Rattle.model.specs.declared.EventKind.{EventKind};
+ghost use Rattle.model.specs.Events.{kind_number};
 ghost use Rattle.convert.specs.declared.tally.Unsurveyed.TheVariants.{Faulty};
 
 use yaml::{Event, EventKind, Fault};
@@ -21,7 +23,7 @@ impl From<Fault> for Unsurveyed {
     }
 }
 
-// What is to come. Each event is a byte at least, so no count is larger than the bytes.
+// What is to come.
 #[derive(Clone, Copy, PartialEq, Eq, Debug)]
 pub struct Survey {
     pub events: usize,
@@ -33,16 +35,10 @@ pub struct Survey {
     pub bytes: usize,
     // whether these are all
     pub stop: Result<(), Unsurveyed>,
-    ghost ten: { length kinds ≡ 10 },
-    ghost heavy: { events ≤ bytes },
-    ghost few_kinds: { (k : ℕ) → slice_index kinds k ≤ events },
-    ghost few_anchors: { anchors ≤ events },
 }
 
 impl Survey {
-    ghost use Rattle.model.specs.Events.{kind_number};
-    ghost use Rattle.yaml.specs.Shapes.{ev_of};
-    ghost use Rattle.convert.specs.Surveys.{Adds, Untouched};
+    ghost use Rattle.convert.specs.Surveys.{Untouched};
 
     // No event is surveyed yet.
     pub fn new() -> Survey
@@ -64,18 +60,43 @@ impl Survey {
         let place = usize::from(u8::from(kind)) - 1;
         self.kinds[place]
     }
+}
+
+// A survey while it is counted. Each event is a byte at least, so no count is larger than the bytes.
+#[derive(Drop)]
+pub(crate) struct Tally {
+    pub(crate) survey: Survey,
+    ghost ten: { length survey.kinds ≡ 10 },
+    ghost heavy: { survey.events ≤ survey.bytes },
+    ghost few_kinds: { (k : EventKind) → slice_index survey.kinds (kind_number k - 1) ≤ survey.events },
+    ghost few_anchors: { survey.anchors ≤ survey.events },
+}
+
+impl Tally {
+    ghost use Rattle.yaml.specs.Shapes.{ev_of};
+    ghost use Rattle.convert.specs.Surveys.{Adds, Untouched};
+
+    // No event is counted yet.
+    pub(crate) fn new() -> Tally
+        ensures { Untouched result.survey }
+    {
+        Tally {
+            survey: Survey::new(),
+        }
+    }
 
     // Counts one event of this size.
     pub(crate) fn add(&mut self, event: &Event<'_>, size: usize) -> Result<(), Unsurveyed>
         requires heavy { 1 ≤ size }
-        ensures { Adds self.old (ev_of event.now) size result self.new }
+        ensures { Adds self.old.survey (ev_of event.now) size result self.new.survey }
     {
-        self.bytes = self.bytes.checked_add(size).ok_or(Unsurveyed::TooLarge)?;
-        self.events += 1;
-        self.kinds[usize::from(u8::from(event.kind)) - 1] += 1;
+        let survey = &mut self.survey;
+        survey.bytes = survey.bytes.checked_add(size).ok_or(Unsurveyed::TooLarge)?;
+        survey.events += 1;
+        survey.kinds[usize::from(u8::from(event.kind)) - 1] += 1;
         // an alias names an anchor, and gives none
         if event.kind != EventKind::Alias && !event.anchor.is_empty() {
-            self.anchors += 1;
+            survey.anchors += 1;
         }
         Ok(())
     }
