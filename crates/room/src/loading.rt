@@ -1,6 +1,7 @@
 // What a document is loaded into.
 ghost use Rattle.std.specs.Prelude.{◌≡◌, IfOk};
-ghost use Rattle.composer.specs.Holding.{lengths_of};
+ghost use Rattle.composer.specs.Holding.{lengths_of, state_of};
+ghost use Rattle.composer.specs.State.{blank};
 ghost use Rattle.room.specs.Rooms.{lengths_in, FitsEveryLoad};
 
 use composer::{Anchor, Tables};
@@ -32,9 +33,10 @@ impl LoadRoom {
         })
     }
 
-    // Tables on all of it.
+    // Tables on all of it, in which nothing is held or open yet.
     pub fn tables(&mut self) -> Tables<'_>
-        ensures { lengths_of result ≡ lengths_in self.old }
+        ensures full { lengths_of result ≡ lengths_in self.old }
+        ensures unused { state_of result ≡ blank }
     {
         Tables::new(
             self.nodes.as_mut_slice(),
