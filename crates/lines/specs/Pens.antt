@@ -1,12 +1,13 @@
 -- What the pens that count and that compare the bytes of a line mean.
-use Rattle.std.specs.Prelude.{◌≡◌, ◌≢◌, ℕ, ◌+◌, ◌-◌, ◌≤◌, true, false, List, [], ◌++◌, length, Some, None, Option, refl}
+use Rattle.std.specs.Prelude.{◌≡◌, ◌≢◌, ℕ, ◌+◌, ◌-◌, ◌≤◌, Bool, true, false, ◌&&◌, List, [], ◌++◌, length, drop, Some, None, Option, refl}
 use Rattle.std.specs.Borrow.{Bor}
 use Rattle.std.proofs.Common.{arith, sym, ap, ◌∙◌}
-use Rattle.std.proofs.lemmas.List.{append_assoc, append_cancel_left, length-append}
+use Rattle.std.proofs.lemmas.List.{append_assoc, append_cancel_left, length-append, drop-drop}
 use Rattle.model.specs.Events.{Ev}
 use Rattle.lines.specs.declared.count.Count.{Count}
 use Rattle.lines.specs.declared.compare.Compare.{Compare}
-use Rattle.lines.specs.Line.{line_of, is_line_of}
+use Rattle.lines.specs.Line.{starts_with, line_of, is_line_of}
+use Rattle.lines.specs.Lawful.{starts_both}
 
 -- counting
 
@@ -62,6 +63,19 @@ compare_onward s t u xs ys p q = off_append xs ys s.left t.left u.left p q
 
 pub compare_falls : (s t : Compare) (xs : List ℕ) → Compared s xs t → unbounded s ≤ unbounded t + length xs
 compare_falls s t xs p = omega arith
+
+and_true : (b : Bool) → b ≡ (b && true)
+and_true true = refl
+and_true false = refl
+
+-- two comparisons in a row are one of all their bytes
+both : (s t u : Bool) (at at' n : ℕ) (xs ys bs bs' : List ℕ) → n ≡ length xs → t ≡ (s && starts_with xs (drop at bs)) → (t ≡ true → at' ≡ at + n) → bs' ≡ bs → u ≡ (t && starts_with ys (drop at' bs')) → u ≡ (s && starts_with (xs ++ ys) (drop at bs))
+both true true u at at' n xs ys bs bs' k p q b r =
+    let place : drop at' bs' ≡ drop (length xs) (drop at bs) = ap (drop at') b ∙ (ap (λ m. drop m bs) (q refl ∙ ap (λ m. at + m) k) ∙ sym (drop-drop (length xs) at bs)) in
+    cc (starts_both xs ys (drop at bs), p, r, place)
+both true false u at at' n xs ys bs bs' k p q b r = cc (starts_both xs ys (drop at bs), p, r)
+both false true u at at' n xs ys bs bs' k p q b r = cc
+both false false u at at' n xs ys bs bs' k p q b r = r
 
 -- whether the bytes begin with the line of an event, which is allowed, and how long that is
 abbrev pub LineWithin : Ev → List ℕ → Option ℕ → Type 0

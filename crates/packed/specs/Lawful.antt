@@ -68,6 +68,12 @@ reads_back e bs h =
     by_head_cong e.style e.flags ((e.anchor ++ (e.tag ++ e.value)) ++ bs) (kind_back e.kind) (two_back (length e.anchor)) (two_back (length e.tag)) (two_back (length e.value))
     ∙ by_head_back e bs h ∙ ap (event e) (sym (packed_length e))
 
+some_kind : (k j : EventKind) → Some k ≡ Some j → k ≡ j
+some_kind k j h = cc
+
+none_kind : (j : EventKind) → None ≢ Some j
+none_kind j h = cc
+
 peel : (n m : ℕ) (j k : EventKind) (others : Option EventKind) → kind_number j ≡ m → (others ≡ Some k → kind_number k ≡ n) → cond (n == m) (Some j) others ≡ Some k → kind_number k ≡ n
 peel n m j k others p more h = by (n == m) refl h
   where
@@ -81,6 +87,18 @@ number_back n k h =
     peel n 1 StreamStart k _ refl (peel n 2 StreamEnd k _ refl (peel n 3 DocumentStart k _ refl (peel n 4 DocumentEnd k _ refl
     (peel n 5 Alias k _ refl (peel n 6 Scalar k _ refl (peel n 7 SequenceStart k _ refl (peel n 8 SequenceEnd k _ refl
     (peel n 9 MappingStart k _ refl (peel n 10 MappingEnd k None refl (λ g. cc)))))))))) h
+
+fault_no_event : (c : Cause) (e : Ev) (n : ℕ) → fault c ≢ event e n
+fault_no_event c e n h = cc
+
+nothing_no_event : (e : Ev) (n : ℕ) → nothing ≢ event e n
+nothing_no_event e n h = cc
+
+fault_something : (c : Cause) → fault c ≢ nothing
+fault_something c h = cc
+
+event_something : (e : Ev) (n : ℕ) → event e n ≢ nothing
+event_something e n h = cc
 
 question : (b : Bool) (yes-front : Front) (c : Cause) → (yes-front ≢ nothing) → cond b yes-front (fault c) ≢ nothing
 question true y c more h = more h
