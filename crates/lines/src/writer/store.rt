@@ -1,6 +1,7 @@
 // The pen that stores the bytes of a line.
 ghost use Rattle.std.specs.Prelude.{◌≡◌, ◌+◌, ◌≤◌, ◌++◌, true, length, take};
 ghost use Rattle.model.specs.Events.{allowed};
+ghost use Rattle.yaml.specs.Puts.{puts};
 ghost use Rattle.yaml.specs.Shapes.{ev_of};
 ghost use Rattle.lines.specs.Line.{line_of};
 
@@ -36,12 +37,13 @@ impl<'a> Pen for Store<'a> {
     }
 }
 
-// Stores the line of an event at a place, and gives the place behind it; nothing before it alters.
+// Stores the line of an event at a place, and gives the place behind it; nothing else alters.
 pub fn store_line(out: &mut [u8], at: usize, e: &Event<'_>) -> usize
     requires allowed { allowed (ev_of e.now) ≡ true }
     requires room { at + length (line_of (ev_of e.now)) ≤ length out.old }
     ensures place { result ≡ at + length (line_of (ev_of e.now)) }
     ensures front { take result out.new ≡ take at out.old ++ line_of (ev_of e.now) }
+    ensures slice { out.new ≡ puts out.old at (line_of (ev_of e.now)) }
 {
     let mut store = Store { out, at };
     write_line(&mut store, e);
