@@ -2,9 +2,9 @@
 ghost use Rattle.std.specs.Prelude.{◌≡◌, ℕ, ◌+◌, ◌≤◌, true, List, [], ◌∷◌, ◌++◌, length};
 ghost use Rattle.model.specs.Events.{allowed};
 ghost use Rattle.yaml.specs.Shapes.{ev_of};
-ghost use Rattle.lines.specs.Line.{word as word_of, escape as escape_text, marked, optional, value_part, digits as digits_of, line_of};
+ghost use Rattle.lines.specs.Line.{word as word_of, escape_byte, escape as escape_text, marked, optional, value_part, digits as digits_of, line_of};
 
-use crate::byte::{escaped, first_escaped};
+use crate::byte::escape;
 use model::EventKind;
 use yaml::Event;
 
@@ -29,24 +29,31 @@ pub trait Pen {
         ensures room { room self.old ≤ room self.new + length bytes.now };
 }
 
-// Writes a text: the bytes between two that are escaped at once.
+// Writes a byte of a text.
+fn write_byte<P: Pen>(pen: &mut P, byte: u8)
+    requires { length (escape_byte byte) ≤ P.Pen.room pen.old }
+    ensures wrote { P.Pen.wrote pen.old (escape_byte byte) pen.new }
+    ensures room { P.Pen.room pen.old ≤ P.Pen.room pen.new + length (escape_byte byte) }
+{
+    match escape(byte) {
+        Some(escaped) => pen.put(&escaped),
+        None => pen.put(&[byte]),
+    }
+}
+
+// Writes a text, byte by byte: those between two that are escaped are mostly few, and to copy or compare so few at once takes longer.
 fn write_text<P: Pen>(pen: &mut P, text: &[u8])
     requires { length (escape_text text.now) ≤ P.Pen.room pen.old }
     ensures wrote { P.Pen.wrote pen.old (escape_text text.now) pen.new }
     ensures room { P.Pen.room pen.old ≤ P.Pen.room pen.new + length (escape_text text.now) }
 {
-    let mut rest = text;
-    // `split_inclusive` would have us ask of each piece again whether its last byte is escaped
-    'text: while let Some(at) = first_escaped(rest) {
-        let (front, back) = rest.split_at(at);
-        pen.put(front);
-        pen.put(&escaped(back[0]));
-        rest = &back[1..];
+    for b in text {
+        write_byte(pen, *b);
     }
-    pen.put(rest);
 }
 
-// Writes a text behind a space and its mark.
+// Writes a text behind a space and its mark; in line, so that where the pen stands is kept in registers from byte to byte.
+#[inline(always)]
 fn write_part<P: Pen>(pen: &mut P, mark: u8, text: &[u8])
     requires { 2 + length (escape_text text.now) ≤ P.Pen.room pen.old }
     ensures wrote { P.Pen.wrote pen.old (marked mark text.now) pen.new }

@@ -1,51 +1,26 @@
-use Rattle.std.proofs.Common.{[], ◌++◌, length, sym, refl, ap, subst, ◌∙◌, arith}
-use Rattle.std.proofs.lemmas.List.{append_assoc, length-append, take_rest}
-use Rattle.lines.specs.Line.{escape}
-use Rattle.lines.proofs.Escaping.{first_on, none_on}
+use Rattle.std.proofs.Common.{get_or, take, length, sym, ap, subst, arith}
+use Rattle.std.proofs.lemmas.List.{take_all, length-append}
+use Rattle.lines.specs.Line.{escape, escape_byte}
+use Rattle.lines.proofs.Escaping.{escape_more, next_fits}
 use Rattle.lines.proofs.pen.write_text.Goals as goal
 
-pub text-init : goal.text-init
-text-init g c = ([], record { wrote = g.P.Pen.nothing _; front = refl; room = omega arith })
+pub loop-b-init : goal.loop-b-init
+loop-b-init g c = record { wrote = g.P.Pen.nothing _; room = omega arith }
 
-pub put-requires : goal.put-requires
-put-requires g c =
-    let cut = first_on _ _ _ _ _ c.in-Some.at (sym c.in-Some.ensures) c.split_at.ensures.front c.split_at.ensures.back refl refl in
-    let i = c.text.invariant.1 in
-    omega (arith, cut.lengths, i.room, ap length i.front, length-append c.text.invariant.0 (escape c.text.rest.now))
+pub write_byte-requires : goal.write_byte-requires
+write_byte-requires g c = next_fits c.args.text.now c.loop-b.b-index (g.P.Pen.room c.loop-b.pen) c.loop-b-test.true (omega (arith, c.loop-b.invariant.room))
 
-pub put-requires-in-Some : goal.put-requires-in-Some
-put-requires-in-Some g c =
-    let cut = first_on _ _ _ _ _ c.in-Some.at (sym c.in-Some.ensures) c.split_at.ensures.front c.split_at.ensures.back c.escaped.ensures refl in
-    let i = c.text.invariant.1 in
-    omega (arith, cut.lengths, i.room, ap length i.front, length-append c.text.invariant.0 (escape c.text.rest.now))
-
-pub text-preserved : goal.text-preserved
-text-preserved g c =
-    let back = c.split_at.result.1.now in
-    let done = c.text.invariant.0 in
-    let i = c.text.invariant.1 in
-    let cut = first_on _ _ _ _ _ c.in-Some.at (sym c.in-Some.ensures) c.split_at.ensures.front c.split_at.ensures.back c.escaped.ensures (take_rest back 1) in
-    let on = g.P.Pen.onward in
-    let more = c.split_at.result.0.now ++ c.escaped.result in (
-      done ++ more,
-      record {
-        wrote = on _ _ _ _ _ i.wrote (on _ _ _ _ _ c.put.ensures.wrote c.put-in-Some.ensures.wrote);
-        front = i.front ∙ (ap (λ l. done ++ l) cut.whole ∙ sym (append_assoc done more _));
-        room = omega (arith, i.room, length-append done more, length-append c.split_at.result.0.now c.escaped.result);
-      },
-    )
-
-pub put-requires-2 : goal.put-requires-2
-put-requires-2 g c =
-    let i = c.text.invariant.1 in
-    omega (arith, i.room, ap length i.front, length-append c.text.invariant.0 (escape c.text.rest.now), ap length (none_on c.text.rest.now (sym c.in_default.ensures)))
+pub loop-b-preserved : goal.loop-b-preserved
+loop-b-preserved g c =
+    let i = c.loop-b.b-index in
+    let bs = c.args.text.now in
+    let m = escape_more bs i c.loop-b-test.true in record {
+      wrote = subst (λ xs. g.P.Pen.wrote c.args.pen.now xs c.write_byte.new.pen) (sym m) (g.P.Pen.onward _ _ _ _ _ c.loop-b.invariant.wrote c.write_byte.ensures.wrote);
+      room = omega (arith, c.loop-b.invariant.room, c.write_byte.ensures.room, ap length m, length-append (escape (take i bs)) (escape_byte (get_or bs i 0)));
+    }
 
 pub returns-clause-wrote : goal.returns-clause-wrote
-returns-clause-wrote g c =
-    let i = c.text.invariant.1 in
-    subst (λ l. g.P.Pen.wrote c.args.pen.now l c.put-2.new.self) (sym (i.front ∙ ap (λ l. c.text.invariant.0 ++ l) (none_on c.text.rest.now (sym c.in_default.ensures)))) (g.P.Pen.onward _ _ _ _ _ i.wrote c.put-2.ensures.wrote)
+returns-clause-wrote g c = subst (λ xs. g.P.Pen.wrote c.args.pen.now (escape xs) c.loop-b.pen) (take_all c.loop-b.b-index c.args.text.now c.loop-b-test.false) c.loop-b.invariant.wrote
 
 pub returns-clause-room : goal.returns-clause-room
-returns-clause-room g c =
-    let i = c.text.invariant.1 in
-    omega (arith, i.room, ap length i.front, length-append c.text.invariant.0 (escape c.text.rest.now), ap length (none_on c.text.rest.now (sym c.in_default.ensures)))
+returns-clause-room g c = omega (arith, c.loop-b.invariant.room, ap (λ xs. length (escape xs)) (take_all c.loop-b.b-index c.args.text.now c.loop-b-test.false))
