@@ -3,6 +3,7 @@ use crate::files::read_input;
 use crate::loading::each_document;
 use document::{Node, NodeKind};
 use loader::Loaded;
+use room::LoadRoom;
 use std::alloc::{AllocError, Global};
 use std::process::ExitCode;
 
@@ -44,10 +45,13 @@ fn tell_row(
 // Reads an input in either form and checks it.
 pub fn run_check(rt: &HostRuntime, file: Option<&str>) -> anyhow::Result<ExitCode> {
     let input = read_input(rt, file)?;
+    // before the heading, which is printed only where there is room
+    let mut room = LoadRoom::new(rt.alloc())?;
     println!(rt; "document    nodes    links     text  anchors  aliases  deepest")?;
     let told = each_document(
         rt,
         input.as_slice(),
+        &mut room,
         |number, loaded, tables| -> anyhow::Result<()> {
             tell_row(rt, number, loaded, tables.nodes())
         },

@@ -8,16 +8,17 @@ use packed::PackedReader;
 use room::LoadRoom;
 use yaml::Source;
 
-// Loads document after document and hands each on under its number, up to the stream's end: answers how many there are, or none where a load was
-// refused, which is told in a line.
+// Loads document after document into the room and hands each on under its number, up to the stream's end: answers how many there are, or none where
+// a load was refused, which is told in a line.
 pub fn each_document<F: FnMut(usize, &Loaded, &Tables<'_>) -> anyhow::Result<()>>(
     rt: &HostRuntime,
     input: &[u8],
+    room: &mut LoadRoom,
     document: F,
 ) -> anyhow::Result<Option<usize>>
     requires { F.IsAlwaysCallable document }
 {
-    with_reader!(Form::of(input), input, reader => each_of(rt, reader, input, document))
+    with_reader!(Form::of(input), input, reader => each_of(rt, reader, input, room, document))
 }
 
 // The same over the reader of the input.
@@ -25,11 +26,11 @@ fn each_of<S: Source + Drop, F: FnMut(usize, &Loaded, &Tables<'_>) -> anyhow::Re
     rt: &HostRuntime,
     source: S,
     input: &[u8],
+    room: &mut LoadRoom,
     mut document: F,
 ) -> anyhow::Result<Option<usize>>
     requires { F.IsAlwaysCallable document }
 {
-    let mut room = LoadRoom::new(rt.alloc())?;
     let mut tables = room.tables();
     let mut loader = Loader::new(source);
     // a `for`, which ends by itself and counts the documents

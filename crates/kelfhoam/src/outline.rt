@@ -2,7 +2,7 @@
 use document::limits::{MAX_LINKS, MAX_NODES};
 use document::{Document, NodeKind};
 use std::alloc::{AllocError, Global};
-use std::io::{self, Write};
+use std::io::Write;
 
 // A collection whose children are being told, and the place of the next one.
 #[derive(Clone, Copy)]
@@ -29,12 +29,12 @@ struct Met {
 
 // How often each node is met; none is told yet.
 fn meetings(heap: Global, d: &Document<'_>) -> Result<Vec<Met>, AllocError> {
-    let mut met = vec![in heap; Met::default(); MAX_NODES + 1]?;
+    let mut met = vec![in heap; Met::default(); d.len().saturating_add(1)]?;
     if let Some(root) = d.root() {
         bump(&mut met, root);
     }
-    // the numbers past the last node's have no links
-    for node in 1..MAX_NODES as u32 + 1 {
+    // the numbers up to the last node's; those past it have no links, and going through them all was dear for small documents
+    for node in (1..MAX_NODES as u32 + 1).take(d.len()) {
         for child in d.links(node).unwrap_or(&[]) {
             bump(&mut met, *child);
         }
@@ -49,11 +49,21 @@ fn bump(met: &mut Vec<Met>, node: u32) {
     }
 }
 
-// A text as it can be printed: what is no plain character is told by its number.
-fn put_text(out: &mut Vec<u8>, text: &[u8]) -> io::Result<()> {
+// The two digits of a byte.
+fn hex(b: u8) -> [u8; 2] {
+    let digits = b"0123456789ABCDEF";
+    [digits[usize::from(b / 16)], digits[usize::from(b % 16)]]
+}
+
+// A text as it can be printed: what is no plain character is told by its number. Byte by byte into the Vec: with `write!` each such byte took
+// ten times as long.
+fn put_text(out: &mut Vec<u8>, text: &[u8]) -> Result<(), AllocError> {
     for b in text {
         match *b {
-            0..=31 | 127 | b'"' | b'\\' => write!(out, "\\x{b:02X}")?,
+            0..=31 | 127 | b'"' | b'\\' => {
+                let [high, low] = hex(*b);
+                out.extend_from_slice(&[b'\\', b'x', high, low])?;
+            }
             b => out.push(b)?,
         }
     }
@@ -61,17 +71,22 @@ fn put_text(out: &mut Vec<u8>, text: &[u8]) -> io::Result<()> {
 }
 
 // A tag, in short where it is one of YAML's own.
-fn put_tag(out: &mut Vec<u8>, tag: &[u8]) -> io::Result<()> {
+fn put_tag(out: &mut Vec<u8>, tag: &[u8]) -> Result<(), AllocError> {
     match tag.strip_prefix(b"tag:yaml.org,2002:") {
         Some(name) => {
-            write!(out, " !!")?;
-            out.write_all(name)
+            out.extend_from_slice(b" !!")?;
+            out.extend_from_slice(name)
         }
         None => {
-            write!(out, " ")?;
+            out.push(b' ')?;
             put_text(out, tag)
         }
     }
+}
+
+// A node's number behind its sign. A write into a Vec fails only for want of memory.
+fn put_number(out: &mut Vec<u8>, sign: char, node: u32) -> Result<(), AllocError> {
+    write!(out, "{sign}{node}").map_err(|_| AllocError)
 }
 
 // The mark in front of a child: keys and values of a mapping are told apart.
@@ -93,31 +108,35 @@ impl Outline {
     }
 
     // One node where it is first met.
-    fn put_node(&mut self, d: &Document<'_>, node: u32) -> io::Result<()> {
-        let kind = match d.kind(node) {
-            Some(NodeKind::Scalar) => "scalar",
-            Some(NodeKind::Sequence) => "sequence",
-            Some(NodeKind::Mapping) => "mapping",
-            None => "nothing",
+    fn put_node(&mut self, d: &Document<'_>, node: u32) -> Result<(), AllocError> {
+        let kind: &[u8] = match d.kind(node) {
+            Some(NodeKind::Scalar) => b"scalar",
+            Some(NodeKind::Sequence) => b"sequence",
+            Some(NodeKind::Mapping) => b"mapping",
+            None => b"nothing",
         };
-        write!(self.text, "{kind}")?;
+        self.text.extend_from_slice(kind)?;
         put_tag(&mut self.text, d.tag(node).unwrap_or(b""))?;
         if self.met.get(node as usize).is_some_and(|met| met.times > 1) {
-            write!(self.text, " &{node}")?;
+            self.text.push(b' ')?;
+            put_number(&mut self.text, '&', node)?;
         }
         if let Some(NodeKind::Scalar) = d.kind(node) {
-            write!(self.text, " \"")?;
+            self.text.extend_from_slice(b" \"")?;
             put_text(&mut self.text, d.value(node).unwrap_or(b""))?;
-            write!(self.text, "\"")?;
+            self.text.push(b'"')?;
         }
-        writeln!(self.text)
+        self.text.push(b'\n')?;
+        Ok(())
     }
 
     // One node, first met or met again; a collection that is first met is opened.
-    fn put_met(&mut self, d: &Document<'_>, node: u32) -> io::Result<()> {
+    fn put_met(&mut self, d: &Document<'_>, node: u32) -> Result<(), AllocError> {
         if let Some(met) = self.met.get_mut(node as usize) {
             if met.told {
-                return writeln!(self.text, "*{node}");
+                put_number(&mut self.text, '*', node)?;
+                self.text.push(b'\n')?;
+                return Ok(());
             }
             met.told = true;
         }
@@ -127,10 +146,19 @@ impl Outline {
         }
         Ok(())
     }
+
+    // The space in front of a child, for each open collection and the one that the child is in.
+    fn put_indent(&mut self) -> Result<(), AllocError> {
+        for _ in 0..self.open.len().saturating_add(1) {
+            self.text.push(b' ')?;
+            self.text.push(b' ')?;
+        }
+        Ok(())
+    }
 }
 
 // The outline of a document. Each turn tells a link or leaves a collection, so there are no more turns than links and nodes.
-pub fn outline_of(heap: Global, d: &Document<'_>) -> io::Result<Vec<u8>> {
+pub fn outline_of(heap: Global, d: &Document<'_>) -> Result<Vec<u8>, AllocError> {
     let mut outline = Outline::new(heap, d)?;
     if let Some(root) = d.root() {
         outline.put_met(d, root)?;
@@ -142,10 +170,10 @@ pub fn outline_of(heap: Global, d: &Document<'_>) -> io::Result<Vec<u8>> {
         let Some(child) = d.child(node, place) else {
             continue;
         };
-        for _ in &outline.open {
-            write!(outline.text, "  ")?;
-        }
-        write!(outline.text, "  {}", child_mark(d, node, place))?;
+        outline.put_indent()?;
+        outline
+            .text
+            .extend_from_slice(child_mark(d, node, place).as_bytes())?;
         outline.open.push(Open {
             node,
             place: place.saturating_add(1),

@@ -5,6 +5,7 @@ use crate::outline::outline_of;
 use anyhow::anyhow;
 use composer::Tables;
 use loader::Loaded;
+use room::LoadRoom;
 use std::io::Write;
 use std::process::ExitCode;
 
@@ -34,9 +35,11 @@ fn show_loaded(
 // Reads an input in either form and shows its documents.
 pub fn run_show(rt: &HostRuntime, file: Option<&str>) -> anyhow::Result<ExitCode> {
     let input = read_input(rt, file)?;
+    let mut room = LoadRoom::new(rt.alloc())?;
     let told = each_document(
         rt,
         input.as_slice(),
+        &mut room,
         |number, loaded, tables| -> anyhow::Result<()> { show_loaded(rt, number, loaded, tables) },
     )?;
     match told {

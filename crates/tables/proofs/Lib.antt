@@ -1,4 +1,3 @@
-pub mod Same
 pub mod Tops
 pub mod Clean
 pub mod Growing

@@ -34,9 +34,12 @@ impl Empty for usize {
     }
 }
 
-// Fills a table with its empty entry.
+// Fills a table with its empty entry. A loop over the entries, which leaves open what is written into each, as an edit of it shows: `fill_with` tells
+// of its closure alone.
 pub fn clear<T: Empty + Copy>(table: &mut [T])
     ensures { table.new ≡ replicate (length table.old) T.Empty.empty }
 {
-    table.fill_with(|| T::none());
+    for entry in table.iter_mut() {
+        *entry = T::none();
+    }
 }

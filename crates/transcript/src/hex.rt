@@ -10,12 +10,16 @@ pub fn digit(b: u8) -> Option<u8> {
     }
 }
 
-// The bytes of a line; what is no digit is passed over, and so is a last digit that has no other beside it.
+// The bytes of a line; what is no digit is passed over, and so is a last digit that has no other beside it. In one pass, so that a long line is not
+// held a second time.
 pub fn bytes_of(heap: Global, line: &[u8]) -> Result<Vec<u8>, AllocError> {
-    let digits: Vec<u8> = line.iter().filter_map(|b| digit(*b)).collect(heap)?;
-    let (pairs, _) = digits.as_slice().as_chunks::<2>();
-    pairs
-        .iter()
-        .map(|pair| pair[0] << 4 | pair[1])
-        .collect(heap)
+    let mut bytes = Vec::new(heap);
+    let mut digits = line.iter().filter_map(|b| digit(*b));
+    while let Some(high) = digits.next() {
+        let Some(low) = digits.next() else {
+            break;
+        };
+        bytes.push(high << 4 | low)?;
+    }
+    Ok(bytes)
 }

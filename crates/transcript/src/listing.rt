@@ -1,8 +1,8 @@
 // Many lists, one a line: each is told under its number, or under the name that stands before it on the line.
 use crate::hex::bytes_of;
-use crate::telling::{Desk, tell_list};
-use std::alloc::Global;
-use std::io::{self, Write};
+use crate::telling::Desk;
+use std::alloc::{AllocError, Global};
+use std::io::Write;
 
 // The name before a colon, and what follows it. A line without a colon has no name, and one of no bytes is none, so that it is a slice and no option.
 fn named(line: &[u8]) -> (&[u8], &[u8]) {
@@ -12,18 +12,19 @@ fn named(line: &[u8]) -> (&[u8], &[u8]) {
     }
 }
 
-// The line in front of what a list comes to.
-fn put_title(out: &mut Vec<u8>, name: &[u8], number: usize) -> io::Result<()> {
+// The line in front of what a list comes to. A write into a Vec fails only for want of memory.
+fn put_title(out: &mut Vec<u8>, name: &[u8], number: usize) -> Result<(), AllocError> {
     if name.is_empty() {
-        return writeln!(out, "list {number}");
+        return writeln!(out, "list {number}").map_err(|_| AllocError);
     }
-    write!(out, "list ")?;
-    out.write_all(name)?;
-    writeln!(out)
+    out.extend_from_slice(b"list ")?;
+    out.extend_from_slice(name)?;
+    out.push(b'\n')?;
+    Ok(())
 }
 
 // What every line of the input comes to; bytes past the last line's end are no line.
-pub fn tell_lists(heap: Global, input: &[u8]) -> io::Result<Vec<u8>> {
+pub fn tell_lists(heap: Global, input: &[u8]) -> Result<Vec<u8>, AllocError> {
     let mut out = Vec::new(heap);
     let mut desk = Desk::new(heap)?;
     let lines = input.split_inclusive(|b| *b == b'\n');
@@ -34,7 +35,7 @@ pub fn tell_lists(heap: Global, input: &[u8]) -> io::Result<Vec<u8>> {
         let (name, digits) = named(line);
         put_title(&mut out, name, i.saturating_add(1))?;
         let list = bytes_of(heap, digits)?;
-        tell_list(&mut out, list.as_slice(), &mut desk)?;
+        desk.tell_list(&mut out, list.as_slice())?;
     }
     Ok(out)
 }

@@ -1,5 +1,5 @@
 // One list: its loads, and what is written again.
-use crate::shown::{Escaped, Place};
+use crate::shown::{Place, put_text};
 use composer::Tables;
 use document::Document;
 use document::limits::MAX_NODES;
@@ -10,6 +10,7 @@ use packed::PackedReader;
 use room::{DumpRoom, LoadRoom};
 use std::alloc::{AllocError, Global};
 use std::io::{self, Write};
+use walk::{Counted, Step};
 use yaml::Sink;
 
 // The lines that a document within the limits is written in have at most so many bytes.
@@ -31,6 +32,20 @@ impl Desk {
             dump: DumpRoom::new(heap)?,
             lines: vec![in heap; 0u8; LINES]?,
         })
+    }
+
+    // One list.
+    pub fn tell_list(&mut self, out: &mut Vec<u8>, list: &[u8]) -> Result<(), AllocError> {
+        let mut tables = self.load.tables();
+        let DumpRoom { counting, steps } = &mut self.dump;
+        tell_list(
+            out,
+            list,
+            &mut tables,
+            counting.as_mut_slice(),
+            steps.as_mut_slice(),
+            self.lines.as_mut_slice(),
+        )
     }
 }
 
@@ -57,10 +72,12 @@ fn tell_look(out: &mut Vec<u8>, d: &Document<'_>, number: u32) -> io::Result<()>
         write!(out, " style {style}")?;
     }
     if let Some(tag) = d.tag(number) {
-        write!(out, " tag {}", Escaped(tag))?;
+        write!(out, " tag ")?;
+        put_text(out, tag)?;
     }
     if let Some(value) = d.value(number) {
-        write!(out, " value {}", Escaped(value))?;
+        write!(out, " value ")?;
+        put_text(out, value)?;
     }
     Ok(())
 }
@@ -113,7 +130,8 @@ fn tell_document<K: Sink>(
     tables: &Tables<'_>,
     loaded: &Loaded,
     writer: &mut Writer<K>,
-    dump: &mut DumpRoom,
+    counting: &mut [Counted],
+    steps: &mut [Step],
 ) -> io::Result<()> {
     tell_loaded(out, loaded)?;
     let d = loaded.document(tables).unwrap_or(Document::empty());
@@ -121,7 +139,7 @@ fn tell_document<K: Sink>(
     for number in numbers.take_while(|number| d.kind(*number).is_some()) {
         tell_node(out, &d, number)?;
     }
-    match writer.dump(d, dump.counting.as_mut_slice(), dump.steps.as_mut_slice()) {
+    match writer.dump(d, counting, steps) {
         Ok(_) => Ok(()),
         Err(refused) => tell_why(out, refused),
     }
@@ -131,16 +149,16 @@ fn tell_document<K: Sink>(
 fn tell_loads<K: Sink>(
     out: &mut Vec<u8>,
     list: &[u8],
-    load: &mut LoadRoom,
-    dump: &mut DumpRoom,
+    tables: &mut Tables<'_>,
     writer: &mut Writer<K>,
+    counting: &mut [Counted],
+    steps: &mut [Step],
 ) -> io::Result<()> {
-    let mut tables = load.tables();
     let mut loader = Loader::new(PackedReader::new(list));
     // a `for`, which ends by itself: no list has more documents than bytes
     for _ in 0..list.len().saturating_add(1) {
-        match loader.load(&mut tables) {
-            Ok(Some(loaded)) => tell_document(out, &tables, &loaded, writer, dump)?,
+        match loader.load(tables) {
+            Ok(Some(loaded)) => tell_document(out, tables, &loaded, writer, counting, steps)?,
             Ok(None) => {
                 writeln!(out, "ended")?;
                 if let Err(refused) = writer.close() {
@@ -154,18 +172,37 @@ fn tell_loads<K: Sink>(
     Ok(())
 }
 
-// One list.
-pub fn tell_list(out: &mut Vec<u8>, list: &[u8], desk: &mut Desk) -> io::Result<()> {
-    let mut sink = LineWriter::new(desk.lines.as_mut_slice());
+// The list's loads, and what was written.
+fn put_list(
+    out: &mut Vec<u8>,
+    list: &[u8],
+    tables: &mut Tables<'_>,
+    counting: &mut [Counted],
+    steps: &mut [Step],
+    room: &mut [u8],
+) -> io::Result<()> {
+    let mut sink = LineWriter::new(room);
     {
         let mut writer = Writer::new(&mut sink);
         if let Err(refused) = writer.open() {
             tell_why(out, refused)?;
         }
-        tell_loads(out, list, &mut desk.load, &mut desk.dump, &mut writer)?;
+        tell_loads(out, list, tables, &mut writer, counting, steps)?;
     }
     let written = sink.finish();
     let lines = written.iter().filter(|b| **b == b'\n').count();
     writeln!(out, "dumped {lines}")?;
     out.write_all(written)
+}
+
+// One list, in tables that are lent, with room for what is written. A write into a Vec fails only for want of memory.
+pub fn tell_list(
+    out: &mut Vec<u8>,
+    list: &[u8],
+    tables: &mut Tables<'_>,
+    counting: &mut [Counted],
+    steps: &mut [Step],
+    room: &mut [u8],
+) -> Result<(), AllocError> {
+    put_list(out, list, tables, counting, steps, room).map_err(|_| AllocError)
 }

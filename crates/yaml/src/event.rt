@@ -176,11 +176,16 @@ impl<'a> Event<'a> {
     }
 }
 
-// Whether no byte is zero.
+// Whether no byte is zero. A loop, which is put in line where it is called: `contains` is not, and deep documents loaded a fifth slower.
 pub fn zero_free(bytes: &[u8]) -> bool
     ensures { result ≡ zero_free bytes.now }
 {
-    !bytes.contains(&0)
+    for b in bytes {
+        if *b == 0 {
+            return false;
+        }
+    }
+    true
 }
 
 // Whether the event is one that sources give and sinks take.

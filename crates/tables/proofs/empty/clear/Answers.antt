@@ -1,13 +1,19 @@
-use Rattle.std.proofs.Common.{◌≡◌, List, length, replicate, refl, rules}
-use Rattle.std.proofs.lemmas.Fn.{chained_keeps}
-use Rattle.tables.proofs.Same.{same_push}
+use Rattle.std.proofs.Common.{◌≡◌, length, arith}
+use Rattle.std.proofs.lemmas.List.{take_more_set, take_all, replicate_more}
 use Rattle.tables.proofs.empty.clear.Goals as goal
+
+pub loop-entry-preserved : goal.loop-entry-preserved
+loop-entry-preserved g c =
+    let i = c.loop-entry.entry-index in
+    let more = take_more_set c.loop-entry.table i c.none.result (omega arith) in
+    let past = c.loop-entry.invariant in
+    let longer = replicate_more i g.T.Empty.empty in
+    cc
 
 pub returns : goal.returns
 returns g c =
-    let e = g.T.Empty.empty in
-    let new = c.fill_with.new.self in
-    let long = c.fill_with.ensures.len in
-    let all : new ≡ replicate (length new) e =
-    chained_keeps _ (λ (xs : List _) _. xs ≡ replicate (length xs) e) (λ xs q x v same called. same_push e x xs same (search rules)) new _ _ refl c.fill_with.ensures.ran.1 in
+    let i = c.loop-entry.entry-index in
+    let long : i ≡ length c.args.table.now = omega arith in
+    let all = take_all i c.loop-entry.table (omega arith) in
+    let past = c.loop-entry.invariant in
     cc
