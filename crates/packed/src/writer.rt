@@ -1,5 +1,6 @@
 // The packed writer: a sink over a lent slice.
-ghost use Rattle.std.specs.Prelude.{◌≡◌, ◌≤◌, true, length, take};
+ghost use Rattle.std.specs.Prelude.{◌≡◌, ◌+◌, ◌≤◌, true, length, take};
+ghost use Rattle.yaml.specs.Puts.{puts};
 ghost use Rattle.model.specs.Events.{allowed as allowed_event};
 ghost use Rattle.model.specs.Reading.{read_all, fault_number};
 ghost use Rattle.yaml.specs.Shapes.{ev_of};
@@ -9,6 +10,17 @@ use crate::head::HEAD;
 use yaml::event::allowed;
 use yaml::sink::fitting;
 use yaml::{Event, Refusal, Sink};
+
+// Stores bytes into a slice, from a place on. A loop over the slice as a parameter: with copy_from_slice the archive for C wants `memmove` from
+// outside, and each short text costs a call.
+fn store(out: &mut [u8], at: usize, bytes: &[u8])
+    requires { at + length bytes.now ≤ length out.old }
+    ensures { out.new ≡ puts out.old at bytes.now }
+{
+    for (i, b) in bytes.iter().enumerate() {
+        out[at + i] = *b;
+    }
+}
 
 // The slice, and how many of its bytes hold events; these bytes are read to their end. Slice and count stay beside one another: the user lends
 // the memory, and a library crate has no heap for a Vec.
@@ -39,10 +51,9 @@ impl<'a> PackedWriter<'a> {
         requires fits { at + length bytes.now ≤ length self.old.out.now }
         ensures { Put self.old at bytes.now result self.new }
     {
-        let end = at + bytes.len();
         let out = &mut *self.out;
-        out[at..end].copy_from_slice(bytes);
-        end
+        store(out, at, bytes);
+        at + bytes.len()
     }
 
     // Stores the bytes of an event behind those that hold events, and gives the place behind them.
