@@ -33,7 +33,7 @@ fn meetings(heap: Global, d: &Document<'_>) -> Result<Vec<Met>, AllocError> {
     if let Some(root) = d.root() {
         bump(&mut met, root);
     }
-    // the numbers up to the last node's; those past it have no links, and going through them all was dear for small documents
+    // the numbers up to the last node's; to go through all of them is dear for small documents
     for node in (1..MAX_NODES as u32 + 1).take(d.len()) {
         for child in d.links(node).unwrap_or(&[]) {
             bump(&mut met, *child);
@@ -55,8 +55,7 @@ fn hex(b: u8) -> [u8; 2] {
     [digits[usize::from(b / 16)], digits[usize::from(b % 16)]]
 }
 
-// A text as it can be printed: what is no plain character is told by its number. Byte by byte into the Vec: with `write!` each such byte took
-// ten times as long.
+// A text as it can be printed: what is no plain character is told by its number. Byte by byte into the Vec, as a `write!` for each such byte is dear.
 fn put_text(out: &mut Vec<u8>, text: &[u8]) -> Result<(), AllocError> {
     for b in text {
         match *b {

@@ -131,8 +131,7 @@ impl<'a, T: Empty + Copy> Stack<'a, T> {
         Ok(())
     }
 
-    // Takes entries off the top until at most n are left. A loop over the places: with `clear`, each few children cost a call, and deep documents
-    // loaded a fifth slower.
+    // Takes entries off the top until at most n are left. A loop over the places: with `clear`, the few children of each collection cost a call.
     pub fn shorten(&mut self, n: usize)
         ensures { Shortened T.Empty.empty self.old n self.new }
     {

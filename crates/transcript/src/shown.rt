@@ -15,7 +15,7 @@ impl fmt::Display for Place {
     }
 }
 
-// Puts a text as the line format escapes it. Byte by byte into the Vec: by Display each byte took several times as long.
+// Puts a text as the line format escapes it. Byte by byte into the Vec, as by Display each byte is dearer.
 pub fn put_text(out: &mut Vec<u8>, text: &[u8]) -> Result<(), AllocError> {
     for b in text {
         match escape(*b) {
