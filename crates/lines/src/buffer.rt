@@ -66,12 +66,14 @@ impl<const N: usize> Buffer<N> {
         self.length = length + 1;
     }
 
-    // Becomes the copy of another text.
+    // Becomes the copy of another text; most have no bytes, for which no copy is called.
     pub fn copy_from(&mut self, other: &Self)
         ensures { self.new ≡ other.now }
     {
         let text = other.as_slice();
-        self.bytes[..text.len()].copy_from_slice(text);
+        if !text.is_empty() {
+            self.bytes[..text.len()].copy_from_slice(text);
+        }
         self.length = text.len();
     }
 }
