@@ -27,7 +27,9 @@ impl Texts {
         }
     }
 
-    // Takes the next event of a source, and lends it whole; there is none at the source's end.
+    // Takes the next event of a source, and lends it whole; there is none at the source's end. In line, so that where the reader and the texts stand
+    // is known where it is called, and a long text is copied at once.
+    #[inline(always)]
     pub fn next_of<S: Source>(&mut self, source: &mut S) -> Result<Option<Whole<'_>>, Fault>
         ensures { GaveWhole (S.Source.flow source.old) result (S.Source.flow source.new) }
     {
