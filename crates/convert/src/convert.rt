@@ -38,7 +38,8 @@ pub struct Converted {
     pub end: Result<(), Unconverted>,
 }
 
-// Hands on every event to come, and counts them from 0.
+// Hands on every event to come, and counts them from 0. In line, as Texts::next_of tells.
+#[inline(always)]
 fn hand_each<S: Source, K: Sink>(
     source: &mut S,
     sink: &mut K,
@@ -57,6 +58,7 @@ fn hand_each<S: Source, K: Sink>(
 }
 
 // Hands on every event to come, up to the source's end or fault, or to the first event that does not fit.
+#[inline(always)]
 pub fn hand_all<S: Source, K: Sink>(source: &mut S, sink: &mut K) -> Converted
     ensures { Conversion K.Sink.weight (S.Source.flow source.old) (K.Sink.view sink.old) result (S.Source.flow source.new) (K.Sink.view sink.new) }
 {

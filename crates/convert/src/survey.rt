@@ -6,7 +6,8 @@ pub use crate::tally::{Survey, Unsurveyed};
 use crate::texts::Texts;
 use yaml::{Sink, Source};
 
-// Counts every event to come, up to the source's end or fault. What was counted before an error stands.
+// Counts every event to come, up to the source's end or fault. What was counted before an error stands. In line, as Texts::next_of tells.
+#[inline(always)]
 fn survey_each<S: Source, K: Sink>(
     source: &mut S,
     sink: &K,
@@ -24,6 +25,7 @@ fn survey_each<S: Source, K: Sink>(
 }
 
 // Surveys every event to come, up to the source's end or fault; the source is then at that end.
+#[inline(always)]
 pub fn look_over<S: Source, K: Sink>(source: &mut S, sink: &K) -> Survey
     ensures { Surveyed K.Sink.weight (S.Source.flow source.old) result (S.Source.flow source.new) }
 {

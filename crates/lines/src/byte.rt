@@ -1,5 +1,6 @@
 // How a byte of a text stands in a line.
 ghost use Rattle.std.specs.Prelude.{◌≡◌, ◌<◌, ◌/◌, ◌%◌, [], ◌∷◌, MatchOption};
+ghost use Rattle.std.specs.List.{position};
 ghost use Rattle.lines.specs.Line.{escapes as is_escaped, escape_byte, hex as hex_digit, unhex as hex_value, unescaped};
 
 // The hexadecimal digit of a number below 16, in upper case, where the library's `from_digit` gives lower case.
@@ -17,8 +18,15 @@ fn escapes(byte: u8) -> bool
     byte < 33 || byte > 126 || byte == b'\\'
 }
 
+// Where the first byte of a text stands that is escaped.
+pub(crate) fn first_escaped(text: &[u8]) -> Option<usize>
+    ensures { result ≡ position is_escaped text.now }
+{
+    text.iter().position(|b| escapes(*b))
+}
+
 // A backslash and the two digits of a byte.
-fn escaped(byte: u8) -> [u8; 3]
+pub(crate) fn escaped(byte: u8) -> [u8; 3]
     ensures { result ≡ 92 ∷ hex_digit (byte / 16) ∷ hex_digit (byte % 16) ∷ [] }
 {
     [b'\\', digit(byte / 16), digit(byte % 16)]

@@ -14,6 +14,8 @@ pub struct Compare<'a> {
 }
 
 impl<'a> Pen for Compare<'a> {
+    const RUNS: bool = true;
+
     ghost wrote = { Compared };
 
     ghost room = { unbounded };

@@ -15,6 +15,8 @@ pub struct Count {
 }
 
 impl Pen for Count {
+    const RUNS: bool = false;
+
     ghost wrote = { Counted };
 
     ghost room = { uncounted };

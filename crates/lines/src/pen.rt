@@ -4,7 +4,7 @@ ghost use Rattle.model.specs.Events.{allowed};
 ghost use Rattle.yaml.specs.Shapes.{ev_of};
 ghost use Rattle.lines.specs.Line.{word as word_of, escape_byte, escape as escape_text, marked, optional, value_part, digits as digits_of, line_of};
 
-use crate::byte::escape;
+use crate::byte::{escape, escaped, first_escaped};
 use model::EventKind;
 use yaml::Event;
 
@@ -12,6 +12,9 @@ use yaml::Event;
 pub trait Pen {
     // the pen that has taken some bytes more
     ghost wrote: { Self → List ℕ → Self → Type 0 };
+
+    // Whether it takes some bytes at once faster than one after the other.
+    const RUNS: bool;
 
     // how many bytes it takes at least
     ghost room: { Self → ℕ };
@@ -41,8 +44,8 @@ fn write_byte<P: Pen>(pen: &mut P, byte: u8)
     }
 }
 
-// Writes a text, byte by byte: those between two that are escaped are mostly few, and to copy or compare so few at once takes longer.
-fn write_text<P: Pen>(pen: &mut P, text: &[u8])
+// Writes a text byte by byte.
+fn write_bytes<P: Pen>(pen: &mut P, text: &[u8])
     requires { length (escape_text text.now) ≤ P.Pen.room pen.old }
     ensures wrote { P.Pen.wrote pen.old (escape_text text.now) pen.new }
     ensures room { P.Pen.room pen.old ≤ P.Pen.room pen.new + length (escape_text text.now) }
@@ -52,8 +55,48 @@ fn write_text<P: Pen>(pen: &mut P, text: &[u8])
     }
 }
 
-// Writes a text behind a space and its mark; in line, so that where the pen stands is kept in registers from byte to byte.
-#[inline(always)]
+// Writes some bytes as they are; of none, nothing.
+fn write_plain<P: Pen>(pen: &mut P, bytes: &[u8])
+    requires { length bytes.now ≤ P.Pen.room pen.old }
+    ensures wrote { P.Pen.wrote pen.old bytes.now pen.new }
+    ensures room { P.Pen.room pen.old ≤ P.Pen.room pen.new + length bytes.now }
+{
+    if !bytes.is_empty() {
+        pen.put(bytes);
+    }
+}
+
+// Writes a text: the bytes between two that are escaped at once.
+fn write_runs<P: Pen>(pen: &mut P, text: &[u8])
+    requires { length (escape_text text.now) ≤ P.Pen.room pen.old }
+    ensures wrote { P.Pen.wrote pen.old (escape_text text.now) pen.new }
+    ensures room { P.Pen.room pen.old ≤ P.Pen.room pen.new + length (escape_text text.now) }
+{
+    let mut rest = text;
+    // `split_inclusive` would have us ask of each piece again whether its last byte is escaped
+    'text: while let Some(at) = first_escaped(rest) {
+        let (front, back) = rest.split_at(at);
+        write_plain(pen, front);
+        pen.put(&escaped(back[0]));
+        rest = &back[1..];
+    }
+    write_plain(pen, rest);
+}
+
+// Writes a text, in the way that is faster for the pen.
+fn write_text<P: Pen>(pen: &mut P, text: &[u8])
+    requires { length (escape_text text.now) ≤ P.Pen.room pen.old }
+    ensures wrote { P.Pen.wrote pen.old (escape_text text.now) pen.new }
+    ensures room { P.Pen.room pen.old ≤ P.Pen.room pen.new + length (escape_text text.now) }
+{
+    if P::RUNS {
+        write_runs(pen, text);
+    } else {
+        write_bytes(pen, text);
+    }
+}
+
+// Writes a text behind a space and its mark.
 fn write_part<P: Pen>(pen: &mut P, mark: u8, text: &[u8])
     requires { 2 + length (escape_text text.now) ≤ P.Pen.room pen.old }
     ensures wrote { P.Pen.wrote pen.old (marked mark text.now) pen.new }

@@ -19,6 +19,8 @@ pub struct Store<'a> {
 impl<'a> Pen for Store<'a> {
     ghost use Rattle.lines.specs.Stores.{Stored, unwritten, store_nothing, store_onward, store_falls};
 
+    const RUNS: bool = false;
+
     ghost wrote = { Stored };
 
     ghost room = { unwritten };

@@ -1,6 +1,6 @@
 use Rattle.std.proofs.Common.{◌+◌, ◌≤◌, length, take}
 use Rattle.lines.specs.Line.{escape}
-use Rattle.lines.proofs.pen.write_text.Given as goal
+use Rattle.lines.proofs.pen.write_bytes.Given as goal
 
 -- the bytes so far are written, and took no more room than they have
 abbrev pub invariant-loop-b : goal.invariant-loop-b

@@ -2,7 +2,7 @@ use Rattle.std.proofs.Common.{get_or, take, length, sym, ap, subst, arith}
 use Rattle.std.proofs.lemmas.List.{take_all, length-append}
 use Rattle.lines.specs.Line.{escape, escape_byte}
 use Rattle.lines.proofs.Escaping.{escape_more, next_fits}
-use Rattle.lines.proofs.pen.write_text.Goals as goal
+use Rattle.lines.proofs.pen.write_bytes.Goals as goal
 
 pub loop-b-init : goal.loop-b-init
 loop-b-init g c = record { wrote = g.P.Pen.nothing _; room = omega arith }
