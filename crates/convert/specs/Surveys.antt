@@ -60,6 +60,13 @@ pub record Surveyed (weight : Ev → ℕ) (f₀ : Flow) (r : Survey) (f : Flow) 
   pub tallied : Tallied weight (first_ones r.events f₀) r.events r.kinds r.anchors r.bytes
   pub end : stopping weight f₀ r.events r.bytes r.stop f
 
+-- each event is a byte at least: no count is larger than the events, and these are no more than the bytes
+pub record Bounded (s : Survey) : Type 0 where
+  pub ten : length s.kinds ≡ 10
+  pub heavy : s.events ≤ s.bytes
+  pub few_kinds : (k : ℕ) → slice_index s.kinds k ≤ s.events
+  pub few_anchors : s.anchors ≤ s.events
+
 -- nothing was counted yet
 pub record Untouched (s : Survey) : Type 0 where
   pub events : s.events ≡ 0

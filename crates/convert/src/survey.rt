@@ -1,5 +1,5 @@
 // Surveying a source: how many events of which kind are to come, and how many bytes a sink would need for them. Nothing is handed on.
-ghost use Rattle.convert.specs.Surveys.{Untouched, Surveyed};
+ghost use Rattle.convert.specs.Surveys.{Untouched, Surveyed, Bounded};
 
 use crate::tally::Tally;
 pub use crate::tally::{Survey, Unsurveyed};
@@ -27,7 +27,8 @@ fn survey_each<S: Source, K: Sink>(
 // Surveys every event to come, up to the source's end or fault; the source is then at that end.
 #[inline(always)]
 pub fn look_over<S: Source, K: Sink>(source: &mut S, sink: &K) -> Survey
-    ensures { Surveyed K.Sink.weight (S.Source.flow source.old) result (S.Source.flow source.new) }
+    ensures surveyed { Surveyed K.Sink.weight (S.Source.flow source.old) result (S.Source.flow source.new) }
+    ensures bounded { Bounded result }
 {
     let mut tally = Tally::new();
     let stop = survey_each(source, sink, &mut tally);

@@ -1,7 +1,5 @@
 // What a survey tells, counted event by event.
-ghost use Rattle.std.specs.Prelude.{◌≡◌, ◌-◌, ◌≤◌, length, slice_index};
-ghost use Rattle.model.specs.declared.EventKind.{EventKind};
-ghost use Rattle.model.specs.Events.{kind_number};
+ghost use Rattle.std.specs.Prelude.{◌≡◌, ℕ, ◌-◌, ◌≤◌, length, slice_index};
 ghost use Rattle.convert.specs.declared.tally.Unsurveyed.TheVariants.{Faulty};
 
 use yaml::{Event, EventKind, Fault};
@@ -38,11 +36,13 @@ pub struct Survey {
 }
 
 impl Survey {
-    ghost use Rattle.convert.specs.Surveys.{Untouched};
+    ghost use Rattle.model.specs.Events.{kind_number};
+    ghost use Rattle.convert.specs.Surveys.{Untouched, Bounded};
 
     // No event is surveyed yet.
     pub fn new() -> Survey
-        ensures { Untouched result }
+        ensures untouched { Untouched result }
+        ensures bounded { Bounded result }
     {
         Survey {
             events: 0,
@@ -68,7 +68,7 @@ pub(crate) struct Tally {
     pub(crate) survey: Survey,
     ghost ten: { length survey.kinds ≡ 10 },
     ghost heavy: { survey.events ≤ survey.bytes },
-    ghost few_kinds: { (k : EventKind) → slice_index survey.kinds (kind_number k - 1) ≤ survey.events },
+    ghost few_kinds: { (k : ℕ) → slice_index survey.kinds k ≤ survey.events },
     ghost few_anchors: { survey.anchors ≤ survey.events },
 }
 

@@ -2,8 +2,8 @@
 // an input, and what this library answers must be what the file `stdout` says.
 #![tactic(auto)]
 
-use transcript::answer;
+use transcript::run_lists;
 
 fn main(rt: HostRuntime) -> anyhow::Result<()> {
-    Ok(answer(&rt)?)
+    Ok(run_lists(&rt)?)
 }

@@ -10,6 +10,8 @@ use Rattle.runs.specs.Law.{Law}
 use Rattle.dumper.specs.declared.answer.Why.{Why}
 use Rattle.dumper.specs.declared.answer.Why.TheVariants.{AlreadyOpened, NotOpened, Spoilt, Closed, TooFewCounts, TooDeep, TooFewSteps, NoAnchor, Sink}
 use Rattle.dumper.specs.declared.answer.Refused.{Refused}
+use Rattle.dumper.specs.declared.writer.Writer.{Writer}
+use Rattle.dumper.specs.Handing.{Countable}
 
 -- a new writer: not opened, closed or spoilt, over the sink as it was
 pub record Made (v : View) (s : State) : Type 0 where
@@ -30,6 +32,10 @@ handed b counts steps = record { book = b; counts = counts; steps = steps }
 -- the counter that was at 0 is at 0
 abbrev pub Rests : ℕ → ℕ → Type 0
 Rests before after = before ≡ 0 → after ≡ 0
+
+-- where the counter held even if each byte of the room were an event, it does so still
+abbrev pub StaysCountable : {S : Type 0} → (S → View) → Writer S → Writer S → Type 0
+StaysCountable view w w' = Countable w.outlet.events (view w.outlet.sink) → Countable w'.outlet.events (view w'.outlet.sink)
 
 abbrev ToldBy : Book → Why → Type 0
 ToldBy b AlreadyOpened = Unit {0}

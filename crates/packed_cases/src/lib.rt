@@ -1,7 +1,8 @@
 // Examples of packed events: read, refused, written and converted.
 #![tactic(auto)]
 
-use convert::{Unconverted, hand_all};
+use convert::survey::look_over;
+use convert::{Survey, Unconverted, Unsurveyed, hand_all};
 use lines::LineReader;
 use lines_cases::events_of;
 use packed::{PackedReader, PackedWriter};
@@ -252,5 +253,39 @@ mod tests {
                 Err(Unconverted::Refused(Refusal::NoSpace { size: 9, space: 8 }))
             )
         );
+    }
+
+    #[test]
+    fn a_survey_counts_by_kind(rt: HostRuntime) {
+        let book = look_over(&mut PackedReader::new(&BOOK), &PackedWriter::new(&mut []));
+        let all = Survey {
+            events: 8,
+            kinds: [1, 1, 1, 1, 1, 1, 1, 1, 0, 0],
+            anchors: 1,
+            bytes: 76,
+            stop: Ok(()),
+        };
+        assert_eq!(rt; book, all);
+        assert!(rt; book.of_kind(EventKind::Alias) == 1);
+        assert!(rt; book.of_kind(EventKind::MappingStart) == 0);
+        let nothing = look_over(&mut PackedReader::new(&[]), &PackedWriter::new(&mut []));
+        assert_eq!(rt; nothing, Survey::new());
+    }
+
+    #[test]
+    fn a_survey_stops_at_a_fault(rt: HostRuntime) {
+        let cut = look_over(
+            &mut PackedReader::new(&BOOK[0..17]),
+            &PackedWriter::new(&mut []),
+        );
+        assert!(rt; cut.events == 1);
+        assert!(rt; cut.bytes == 9);
+        assert!(rt; cut.of_kind(EventKind::StreamStart) == 1);
+        let Err(Unsurveyed::Faulty(fault)) = cut.stop else {
+            assert!(rt; false, "no fault");
+            return;
+        };
+        assert!(rt; fault.cause.number() == 11);
+        assert!(rt; fault.place == 9);
     }
 }

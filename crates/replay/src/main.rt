@@ -2,8 +2,8 @@
 // the file `stdout` beside this folder was made from the original).
 #![tactic(auto)]
 
-use transcript::answer;
+use transcript::run_lists;
 
 fn main(rt: HostRuntime) -> anyhow::Result<()> {
-    Ok(answer(&rt)?)
+    Ok(run_lists(&rt)?)
 }

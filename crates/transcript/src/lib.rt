@@ -5,8 +5,10 @@
 pub mod answering;
 pub mod hex;
 pub mod listing;
+pub mod running;
 pub mod shown;
 pub mod telling;
 
 pub use answering::answer;
 pub use listing::tell_lists;
+pub use running::run_lists;

@@ -2,7 +2,7 @@
 use lines::escape;
 use model::Mark;
 use std::alloc::AllocError;
-use std::fmt;
+use std::fmt::{self, Write};
 
 // A mark: the byte, the event and the column where something begins or ends.
 #[derive(Drop)]
@@ -12,6 +12,27 @@ pub struct Place(pub Mark);
 impl fmt::Display for Place {
     fn fmt<W: fmt::Write>(&self, f: &mut fmt::Formatter<W>) -> fmt::Result {
         write!(f, "{} {} {}", self.0.index, self.0.line, self.0.column)
+    }
+}
+
+// A text as the line format escapes it, wherever a Display goes.
+#[derive(Drop)]
+pub struct Escaped<'a>(pub &'a [u8]);
+
+// The bytes that the line writer writes for the text.
+impl<'a> fmt::Display for Escaped<'a> {
+    fn fmt<W: fmt::Write>(&self, f: &mut fmt::Formatter<W>) -> fmt::Result {
+        for b in self.0 {
+            match escape(*b) {
+                None => f.write_char(char::from(*b))?,
+                Some(escaped) => {
+                    for b in escaped {
+                        f.write_char(char::from(b))?;
+                    }
+                }
+            }
+        }
+        Ok(())
     }
 }
 

@@ -14,8 +14,11 @@ use yaml::{Event, EventKind, Sink};
 impl<S: Sink> Outlet<S> {
     // An outlet to the sink, which was handed nothing yet.
     pub(crate) fn new(sink: S) -> Outlet<S>
-        ensures { result.sink ≡ sink }
+        ensures sink { result.sink ≡ sink }
+        ensures few { Countable result.events (S.Sink.view result.sink) }
     {
+        // the space is a number of the machine's, so the events that fill it can be counted
+        let _space = sink.space();
         Outlet { sink, events: 0 }
     }
 

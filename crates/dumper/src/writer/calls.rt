@@ -5,7 +5,8 @@ ghost use Rattle.document.specs.Books.{book_of};
 ghost use Rattle.runs.specs.Writer.{opening, closing, dumping, Called};
 ghost use Rattle.dumper.specs.Answers.{answer_of};
 ghost use Rattle.dumper.specs.States.{state_of};
-ghost use Rattle.dumper.specs.Calls.{Made, LawFrom, handed, Told, Rests};
+ghost use Rattle.dumper.specs.Handing.{Countable};
+ghost use Rattle.dumper.specs.Calls.{Made, LawFrom, handed, Told, Rests, StaysCountable};
 
 use super::Writer;
 use crate::answer::{Refused, Why};
@@ -20,6 +21,7 @@ impl<S: Sink> Writer<S> {
     pub fn new(sink: S) -> Writer<S>
         ensures made { Made (S.Sink.view sink) (state_of S.Sink.view result) }
         ensures rests { result.last_anchor_id ≡ 0 }
+        ensures countable { Countable result.outlet.events (S.Sink.view result.outlet.sink) }
         ensures law { LawFrom S.Sink.weight (state_of S.Sink.view result) }
     {
         Writer {
@@ -42,6 +44,7 @@ impl<S: Sink> Writer<S> {
     pub fn open(&mut self) -> Result<usize, Refused>
         ensures called { Called S.Sink.weight opening (state_of S.Sink.view self.old) (answer_of result) (state_of S.Sink.view self.new) }
         ensures rests { Rests self.old.last_anchor_id self.new.last_anchor_id }
+        ensures countable { StaysCountable S.Sink.view self.old self.new }
     {
         if self.opened {
             return Err(Why::AlreadyOpened.into());
@@ -55,6 +58,7 @@ impl<S: Sink> Writer<S> {
     pub fn close(&mut self) -> Result<usize, Refused>
         ensures called { Called S.Sink.weight closing (state_of S.Sink.view self.old) (answer_of result) (state_of S.Sink.view self.new) }
         ensures rests { Rests self.old.last_anchor_id self.new.last_anchor_id }
+        ensures countable { StaysCountable S.Sink.view self.old self.new }
     {
         if !self.opened {
             return Err(Why::NotOpened.into());
@@ -80,6 +84,7 @@ impl<S: Sink> Writer<S> {
         ensures counting { counting.new ≡ replicate (length counting.old) empty_counted }
         ensures steps { steps.new ≡ replicate (length steps.old) empty_step }
         ensures rests { Rests self.old.last_anchor_id self.new.last_anchor_id }
+        ensures countable { StaysCountable S.Sink.view self.old self.new }
     {
         let answer = self.dump_planned(&d, counting, steps);
         clear_plan(counting, steps);
@@ -95,6 +100,7 @@ impl<S: Sink> Writer<S> {
     ) -> Result<usize, Refused>
         ensures called { Called S.Sink.weight (dumping (handed (book_of d.now) (length counting.old) (length steps.old))) (state_of S.Sink.view self.old) (answer_of result) (state_of S.Sink.view self.new) }
         ensures told { Told (book_of d.now) result }
+        ensures countable { StaysCountable S.Sink.view self.old self.new }
     {
         if self.spoilt {
             return Err(Why::Spoilt.into());

@@ -15,7 +15,8 @@ impl<S: Sink> Writer<S> {
     // Starts the stream where it is not opened.
     pub(crate) fn start(&mut self) -> Result<(), Refused>
         requires { Countable self.old.outlet.events (S.Sink.view self.old.outlet.sink) }
-        ensures { Wrote S.Sink.weight S.Sink.view self.old (start_due self.old.opened) result self.new }
+        ensures wrote { Wrote S.Sink.weight S.Sink.view self.old (start_due self.old.opened) result self.new }
+        ensures few { Countable self.new.outlet.events (S.Sink.view self.new.outlet.sink) }
     {
         self.outlet
             .hand_once(EventKind::StreamStart, &mut self.opened)
@@ -24,7 +25,8 @@ impl<S: Sink> Writer<S> {
     // Ends the stream where it is not closed.
     pub(crate) fn finish(&mut self) -> Result<(), Refused>
         requires { Countable self.old.outlet.events (S.Sink.view self.old.outlet.sink) }
-        ensures { Wrote S.Sink.weight S.Sink.view self.old (end_due self.old.closed) result self.new }
+        ensures wrote { Wrote S.Sink.weight S.Sink.view self.old (end_due self.old.closed) result self.new }
+        ensures few { Countable self.new.outlet.events (S.Sink.view self.new.outlet.sink) }
     {
         self.outlet
             .hand_once(EventKind::StreamEnd, &mut self.closed)
@@ -33,7 +35,8 @@ impl<S: Sink> Writer<S> {
     // Starts and ends the stream, as far as need be.
     pub(crate) fn write_nothing(&mut self) -> Result<(), Refused>
         requires { Countable self.old.outlet.events (S.Sink.view self.old.outlet.sink) }
-        ensures { Wrote S.Sink.weight S.Sink.view self.old (start_due self.old.opened ++ end_due self.old.closed) result self.new }
+        ensures wrote { Wrote S.Sink.weight S.Sink.view self.old (start_due self.old.opened ++ end_due self.old.closed) result self.new }
+        ensures few { Countable self.new.outlet.events (S.Sink.view self.new.outlet.sink) }
     {
         self.start()?;
         self.finish()
@@ -43,7 +46,8 @@ impl<S: Sink> Writer<S> {
     pub(crate) fn write(&mut self, planned: &Planned<'_, '_>) -> Result<(), Refused>
         requires unspoilt { self.old.spoilt ≡ false }
         requires few { Countable self.old.outlet.events (S.Sink.view self.old.outlet.sink) }
-        ensures { Wrote S.Sink.weight S.Sink.view self.old (start_due self.old.opened ++ book_dues (book_of planned.now.d.now) (tokens_of planned.now.steps.now)) result self.new }
+        ensures wrote { Wrote S.Sink.weight S.Sink.view self.old (start_due self.old.opened ++ book_dues (book_of planned.now.d.now) (tokens_of planned.now.steps.now)) result self.new }
+        ensures few { Countable self.new.outlet.events (S.Sink.view self.new.outlet.sink) }
     {
         self.start()?;
         let begun = self.outlet.events();

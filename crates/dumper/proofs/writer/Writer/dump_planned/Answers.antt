@@ -31,7 +31,7 @@ returns-in_err-write-in-Ok-clause-called g c =
     called_short g.S.Sink.weight (dumping h) _ same c.count_anew.ensures.none
     (passes_planned s h c.args.steps.now c.in-Ok.count c.make_plan.new.counting c.make_plan.new.steps plan c.if-self.false still refl)
     (wants_planned s h c.args.steps.now c.in-Ok.count c.make_plan.new.counting c.make_plan.new.steps plan)
-    (err_from_is_err_and c.from_residual.result c.from_residual.ensures.1) c.in_err-write-in-Ok.ensures
+    (err_from_is_err_and c.from_residual.result c.from_residual.ensures.1) c.in_err-write-in-Ok.ensures.wrote
 
 pub returns-in_err-write_nothing-in-Err-NoNodes-clause-called : goal.returns-in_err-write_nothing-in-Err-NoNodes-clause-called
 returns-in_err-write_nothing-in-Err-NoNodes-clause-called g c =
@@ -41,7 +41,7 @@ returns-in_err-write_nothing-in-Err-NoNodes-clause-called g c =
     let same = ap (λ k. state_by self.opened self.closed self.spoilt (g.S.Sink.view k)) c.count_anew.ensures.sink in
     let none = nil_from_length h.book.nodes (rw c.in-Err-NoNodes.field-0-is at c.in-Err-NoNodes.ensures.plan) in
     called_short g.S.Sink.weight (dumping h) _ same c.count_anew.ensures.none (empty_passes h s none c.if-self.false) (empty none refl)
-    (err_from_is_err_and c.from_residual-in_err-write_nothing-in-Err-NoNodes.result c.from_residual-in_err-write_nothing-in-Err-NoNodes.ensures.1) c.in_err-write_nothing-in-Err-NoNodes.ensures
+    (err_from_is_err_and c.from_residual-in_err-write_nothing-in-Err-NoNodes.result c.from_residual-in_err-write_nothing-in-Err-NoNodes.ensures.1) c.in_err-write_nothing-in-Err-NoNodes.ensures.wrote
 
 pub returns-in-Err-NoAnchor-clause-called : goal.returns-in-Err-NoAnchor-clause-called
 returns-in-Err-NoAnchor-clause-called g c =
@@ -74,10 +74,10 @@ returns-clause-called g c =
           (called_well g.S.Sink.weight (dumping h) _ same c.count_anew.ensures.none
           (passes_planned s h c.args.steps.now w.in-Ok.count c.make_plan.new.counting c.make_plan.new.steps plan c.if-self.false still refl)
           (wants_planned s h c.args.steps.now w.in-Ok.count c.make_plan.new.counting c.make_plan.new.steps plan)
-          (c.events.ensures ∙ ap (λ v. v.outlet.events) w.self-is) (went_of w.in_ok-write-in-Ok.ensures))
+          (c.events.ensures ∙ ap (λ v. v.outlet.events) w.self-is) (went_of w.in_ok-write-in-Ok.ensures.wrote))
       | in-Err-NoNodes+in_ok-write_nothing-in-Err-NoNodes w ↦
           let none = nil_from_length h.book.nodes (rw w.in-Err-NoNodes.field-0-is at w.in-Err-NoNodes.ensures.plan) in
           subst (λ v. Called g.S.Sink.weight (dumping h) s (accepted c.events.result) (state_of g.S.Sink.view v)) (sym w.self-is)
           (called_well g.S.Sink.weight (dumping h) _ same c.count_anew.ensures.none (empty_passes h s none c.if-self.false) (empty none refl)
-          (c.events.ensures ∙ ap (λ v. v.outlet.events) w.self-is) (went_of w.in_ok-write_nothing-in-Err-NoNodes.ensures))
+          (c.events.ensures ∙ ap (λ v. v.outlet.events) w.self-is) (went_of w.in_ok-write_nothing-in-Err-NoNodes.ensures.wrote))
     ]
