@@ -1,5 +1,5 @@
 -- What the contracts of the calls say beside what the law over whole runs asks of a call.
-use Rattle.std.specs.Prelude.{◌≡◌, ℕ, false, List, [], Ok, Err, Result}
+use Rattle.std.specs.Prelude.{◌≡◌, ℕ, false, List, [], Ok, Err, Result, IfOk}
 use Rattle.model.specs.Events.{Ev}
 use Rattle.model.specs.Graph.{Book}
 use Rattle.serial.specs.Walk.{Token, Walk}
@@ -33,9 +33,10 @@ handed b counts steps = record { book = b; counts = counts; steps = steps }
 abbrev pub Rests : ℕ → ℕ → Type 0
 Rests before after = before ≡ 0 → after ≡ 0
 
--- where the counter held even if each byte of the room were an event, it does so still
-abbrev pub StaysCountable : {S : Type 0} → (S → View) → Writer S → Writer S → Type 0
-StaysCountable view w w' = Countable w.outlet.events (view w.outlet.sink) → Countable w'.outlet.events (view w'.outlet.sink)
+-- the counter holds even if each byte of the room is an event: after a call that was accepted, and after any where it did before
+pub record StaysCountable {S : Type 0} (view : S → View) (before : Writer S) (r : Result ℕ Refused) (after : Writer S) : Type 0 where
+  pub accepted : IfOk r (λ n. Countable after.outlet.events (view after.outlet.sink))
+  pub still : Countable before.outlet.events (view before.outlet.sink) → Countable after.outlet.events (view after.outlet.sink)
 
 abbrev ToldBy : Book → Why → Type 0
 ToldBy b AlreadyOpened = Unit {0}

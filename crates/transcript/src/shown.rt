@@ -1,4 +1,7 @@
 // How a mark and a text are shown.
+ghost use Rattle.std.specs.Prelude.{Some};
+ghost use Rattle.lines.specs.Line.{escape as escape_text};
+
 use lines::escape;
 use model::Mark;
 use std::alloc::AllocError;
@@ -21,6 +24,8 @@ pub struct Escaped<'a>(pub &'a [u8]);
 
 // The bytes that the line writer writes for the text.
 impl<'a> fmt::Display for Escaped<'a> {
+    ghost output = { λ e. Some (escape_text e.0.now) };
+
     fn fmt<W: fmt::Write>(&self, f: &mut fmt::Formatter<W>) -> fmt::Result {
         for b in self.0 {
             match escape(*b) {

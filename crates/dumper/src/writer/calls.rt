@@ -44,7 +44,7 @@ impl<S: Sink> Writer<S> {
     pub fn open(&mut self) -> Result<usize, Refused>
         ensures called { Called S.Sink.weight opening (state_of S.Sink.view self.old) (answer_of result) (state_of S.Sink.view self.new) }
         ensures rests { Rests self.old.last_anchor_id self.new.last_anchor_id }
-        ensures countable { StaysCountable S.Sink.view self.old self.new }
+        ensures countable { StaysCountable S.Sink.view self.old result self.new }
     {
         if self.opened {
             return Err(Why::AlreadyOpened.into());
@@ -58,7 +58,7 @@ impl<S: Sink> Writer<S> {
     pub fn close(&mut self) -> Result<usize, Refused>
         ensures called { Called S.Sink.weight closing (state_of S.Sink.view self.old) (answer_of result) (state_of S.Sink.view self.new) }
         ensures rests { Rests self.old.last_anchor_id self.new.last_anchor_id }
-        ensures countable { StaysCountable S.Sink.view self.old self.new }
+        ensures countable { StaysCountable S.Sink.view self.old result self.new }
     {
         if !self.opened {
             return Err(Why::NotOpened.into());
@@ -84,7 +84,7 @@ impl<S: Sink> Writer<S> {
         ensures counting { counting.new ≡ replicate (length counting.old) empty_counted }
         ensures steps { steps.new ≡ replicate (length steps.old) empty_step }
         ensures rests { Rests self.old.last_anchor_id self.new.last_anchor_id }
-        ensures countable { StaysCountable S.Sink.view self.old self.new }
+        ensures countable { StaysCountable S.Sink.view self.old result self.new }
     {
         let answer = self.dump_planned(&d, counting, steps);
         clear_plan(counting, steps);
@@ -100,7 +100,7 @@ impl<S: Sink> Writer<S> {
     ) -> Result<usize, Refused>
         ensures called { Called S.Sink.weight (dumping (handed (book_of d.now) (length counting.old) (length steps.old))) (state_of S.Sink.view self.old) (answer_of result) (state_of S.Sink.view self.new) }
         ensures told { Told (book_of d.now) result }
-        ensures countable { StaysCountable S.Sink.view self.old self.new }
+        ensures countable { StaysCountable S.Sink.view self.old result self.new }
     {
         if self.spoilt {
             return Err(Why::Spoilt.into());
