@@ -1,4 +1,4 @@
-// The same for a `main`, which prints the error that it is answered: what could not be had is told in the words of where it failed.
+// The whole of a program that tells lists, for a `main` that answers anyhow's error: want of memory is told in the allocator's words, which an error of io does not keep.
 use crate::listing::tell_lists;
 use std::io::{Read, Write};
 

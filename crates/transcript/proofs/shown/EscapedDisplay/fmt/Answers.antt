@@ -1,10 +1,8 @@
-use Rattle.std.proofs.Common.{rules, ◌≡◌, ◌<◌, ◌++◌, [], ◌∷◌, length, get_or, take, sym, refl, ap, ◌∙◌, arith}
+use Rattle.std.proofs.Common.{rules, ◌<◌, ◌++◌, [], ◌∷◌, length, get_or, take, sym, refl, ap, ◌∙◌, arith}
 use Rattle.std.proofs.Output.{has_written_append, has_written_of_eq, has_written_to_eq}
 use Rattle.std.proofs.lemmas.List.{take_more, take_all}
-use Rattle.std.proofs.lemmas.Str.{encode_ascii}
-use Rattle.std.specs.Char.{encode_utf8}
 use Rattle.lines.proofs.Escaping.{escape_more}
-use Rattle.transcript.proofs.Ascii.{shown_ascii}
+use Rattle.transcript.proofs.Ascii.{shown_char}
 use Rattle.transcript.proofs.shown.EscapedDisplay.fmt.Goals.{in-None+in_ok-write_char-in-None, in-Some+else-loop-b-2-test}
 use Rattle.transcript.proofs.shown.EscapedDisplay.fmt.Goals as goal
 
@@ -17,8 +15,7 @@ loop-b-2-preserved g c = λ plain.
     let so_far = c.loop-b-2.invariant plain in
     let fits : get_or text i 0 < 256 = search rules in
     let inside : k < length es = search rules in
-    let ascii = shown_ascii (get_or text i 0) es k fits c.in-Some.ensures in
-    let same : encode_utf8 c.from-in-loop-b-2.result ≡ get_or es k 0 ∷ [] = ap encode_utf8 c.from-in-loop-b-2.ensures ∙ encode_ascii (get_or es k 0) ascii in
+    let same = shown_char (get_or text i 0) es k c.from-in-loop-b-2.result fits c.in-Some.ensures c.from-in-loop-b-2.ensures in
     has_written_of_eq _ _ _ _ _ (ap (λ xs. take k es ++ xs) same ∙ sym (take_more es k 0 inside))
     (has_written_append _ _ _ _ _ _ so_far (c.in_ok-write_char-in-Some.ensures.writes so_far.plain refl))
 
@@ -31,8 +28,7 @@ loop-b-preserved g c = λ plain.
     has_written_of_eq _ _ _ _ _ (sym (escape_more text i c.loop-b-test.true))
     (has_written_append _ _ _ _ _ _ so_far (elim c.match-escape.branch [
       | in-None+in_ok-write_char-in-None w ↦
-          let ascii = shown_ascii (get_or text i 0) (get_or text i 0 ∷ []) 0 fits w.in-None.ensures in
-          let same : encode_utf8 w.from.result ≡ get_or text i 0 ∷ [] = ap encode_utf8 w.from.ensures ∙ encode_ascii (get_or text i 0) ascii in
+          let same = shown_char (get_or text i 0) (get_or text i 0 ∷ []) 0 w.from.result fits w.in-None.ensures w.from.ensures in
           has_written_to_eq _ _ _ _ _ w.f-is (has_written_of_eq _ _ _ _ _ (same ∙ sym w.in-None.ensures) (w.in_ok-write_char-in-None.ensures.writes so_far.plain refl))
       | in-Some+else-loop-b-2-test w ↦
           let es = w.in-Some.escaped in
